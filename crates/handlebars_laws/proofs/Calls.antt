@@ -5,7 +5,6 @@ use Rattle.handlebars_base.specs.Answers.{Answer, gives}
 use Rattle.handlebars_base.specs.Bytes.{Text}
 use Rattle.handlebars_base.specs.Scoped.{Found, walked, value, missing, present_in}
 use Rattle.handlebars_base.specs.Values.{word}
-use Rattle.handlebars_template.specs.Place.{Place}
 use Rattle.handlebars_template.specs.Tree.{Element, Call, call_name, call_args, call_body, call_inverse, call_marks, is_value}
 use Rattle.handlebars_scope.specs.LineState.{LineState}
 use Rattle.handlebars_scope.specs.Scopes.{empty_frame, Base}
@@ -20,7 +19,7 @@ use Rattle.handlebars_meaning.specs.Means.{line_in, render_chosen, render_helped
 use Rattle.handlebars_meaning.specs.Origins.{body_tree, element_call, is_block, shown_call, is_lone, IsValue, Calls, by_name, as_called, by_hook, Chooses, WritesValue, of_itself, of_helper}
 use Rattle.handlebars_meaning.specs.Pieces.{of_value, of_raw, of_word}
 use Rattle.handlebars_meaning.specs.Questions.{IsAnswered, value_of, view_of, helper_of, called_as, hook_for, choice_of, escape_of, steps_or_offer, HasRegisteredChoice, HasChoice}
-use Rattle.handlebars_meaning.specs.Sites.{body_at, inverse_at, Site}
+use Rattle.handlebars_meaning.specs.Sites.{as_turn, as_part, Time, number_of, body_at, inverse_at, Site}
 use Rattle.handlebars_meaning.specs.State.{Setting, State, push_frame, with_nearest, nearest_variables}
 use Rattle.handlebars_meaning.specs.Steps.{Task, One, Prog, ◌>>=◌, ◌>>◌}
 use Rattle.handlebars_meaning.specs.Writing.{rendered_if_any, write_rendered, write_value}
@@ -53,9 +52,9 @@ module _ (p : Setting) (s : State) (line : LineState) where
 
 -- ---- calls, by the element at a site to which the run came in a state before
 
-module _ (p : Setting) (law : Law) (closed : Closed p law) (site : Site) (place : Option Place) (e : Element) where
+module _ (p : Setting) (law : Law) (closed : Closed p law) (site : Site) (e : Element) where
   abbrev this : Task
-  this = One site place e
+  this = One site e
 
   -- steps of the element
   abbrev Goes : ℕ → (ℕ → Type 0) → State → Prog (Unit {0}) → Type 1
@@ -74,10 +73,15 @@ module _ (p : Setting) (law : Law) (closed : Closed p law) (site : Site) (place 
 
       -- ---- bodies
 
-      render_body-holds : (i : ℕ) (s : State) → law.Fits site s → Goes i (upto (i + 1)) s (render_body site i view)
-      render_body-holds i s fits = render_branch-holds p law closed this i (body_at site i) (call_body c) s
-          (λ t is h. closed.body_part i comes (call_of-shown (is_block e) block (element_call e) c shown)
+      render_body_at-holds : (time : Time) (s : State) → law.Fits site s
+          → Goes (number_of time) (upto (number_of time + 1)) s (render_branch (body_at site time) (call_body c))
+      render_body_at-holds time s fits =
+          render_branch-holds p law closed this (number_of time) (body_at site time) (call_body c) s
+          (λ t is h. closed.body_part time comes (call_of-shown (is_block e) block (element_call e) c shown)
           (element_body-call e block c shown ∙ ap body_tree is) fits h)
+
+      render_body-holds : (i : ℕ) (s : State) → law.Fits site s → Goes i (upto (i + 1)) s (render_body site i view)
+      render_body-holds i = render_body_at-holds (as_part i)
 
       render_inverse-holds : (i : ℕ) (s : State) → law.Fits site s
           → Goes i (upto (i + 1)) s (render_branch (inverse_at site i) (call_inverse c))
@@ -105,7 +109,7 @@ module _ (p : Setting) (law : Law) (closed : Closed p law) (site : Site) (place 
       take_turns-hold i path [] s fits h end l le next g = g l s tt (closed.same_next h)
       take_turns-hold i path (t ∷ ts) s fits h end l le next g =
           let first = closed.turn_next path view.binding t h in
-          render_body-holds i (with_nearest (turn_frame path view.binding t) s) (closed.next_fits fits first)
+          render_body_at-holds (as_turn i) (with_nearest (turn_frame path view.binding t) s) (closed.next_fits fits first)
           (closed.next_well first) end l le (λ u. take_turns site (i + 1) view path ts next) (λ j n far is.
           take_turns-hold (i + 1) path ts n (closed.next_fits fits (closed.then_next first is)) (closed.next_well is) end j
           far next (λ k z to same. g k z to (closed.then_next first (closed.then_next is same))))

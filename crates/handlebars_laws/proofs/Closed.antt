@@ -20,7 +20,7 @@ use Rattle.handlebars_meaning.specs.Inclusion.{is_local, is_registered, is_own_b
 use Rattle.handlebars_meaning.specs.Origins.{nth, body_tree, element_call, is_block, element_body, element_inverse, decorator_tag, inclusion_tag, shown_call, is_html, Chooses, WritesValue, Shows, Finds, IsBlockAlone, SetsPartial}
 use Rattle.handlebars_meaning.specs.Pieces.{of_text, of_value, of_raw, of_word, of_step, Piece, pieces_of, put}
 use Rattle.handlebars_meaning.specs.Questions.{view_of, IsAnswered}
-use Rattle.handlebars_meaning.specs.Sites.{TreeSite, body_at, inverse_at, included_at, Site, element_in}
+use Rattle.handlebars_meaning.specs.Sites.{as_part, Time, number_of, TreeSite, body_at, inverse_at, included_at, Site, element_in}
 use Rattle.handlebars_meaning.specs.State.{Setting, State, push_frame, pop_frame, with_nearest, partial_in, with_partial, with_data, with_local, without_local}
 use Rattle.handlebars_meaning.specs.Steps.{Task, One, Whole}
 use Rattle.handlebars_meaning.specs.Visits.{arrival}
@@ -127,39 +127,39 @@ pub record Closed (p : Setting) (law : Law) : Type 0 where
       → law.IsNext (push_frame f s) n → law.IsNext (begin_inclusion i k n) z → law.IsNext s (end_inclusion s z)
   -- parts that begin, and parts of them
   pub begins_well : {t : Task} {s : State} → law.Begins t s → law.IsWell s
-  pub begins_comes : {site : Site} {place : Option Place} {e : Element} {s : State} → law.Begins (One site place e) s
-      → law.AreKnown (arrival (One site place e) s) → law.ComesTo site e s
-  pub begins_fits : {site : Site} {place : Option Place} {e : Element} {s : State} → law.Begins (One site place e) s
+  pub begins_comes : {site : Site} {e : Element} {s : State} → law.Begins (One site e) s
+      → law.AreKnown (arrival (One site e) s) → law.ComesTo site e s
+  pub begins_fits : {site : Site} {e : Element} {s : State} → law.Begins (One site e) s
       → is_html e ≡ false → law.Fits site s
-  pub begins_raw : {site : Site} {place : Option Place} {c : Call} {s : State}
-      → law.Begins (One site place (html_expression c)) s → law.Fits site (record s { escapes = false })
+  pub begins_raw : {site : Site} {c : Call} {s : State}
+      → law.Begins (One site (html_expression c)) s → law.Fits site (record s { escapes = false })
   pub element_part : {at : TreeSite} {n : Option Text} {es : Elements} {places : List Place} {e : Element}
-      {place : Option Place} {s z : State} (i : ℕ) → law.Begins (Whole at (tree n es places)) s → nth es i ≡ Some e
-      → law.IsNext s z → law.IsPart (Whole at (tree n es places)) i z (One (element_in at i) place e)
-  pub body_part : {site : Site} {place : Option Place} {e : Element} {c : Call} {t : Tree} {before s : State} (i : ℕ)
+      {s z : State} (i : ℕ) → law.Begins (Whole at (tree n es places)) s → nth es i ≡ Some e
+      → law.IsNext s z → law.IsPart (Whole at (tree n es places)) i z (One (element_in at i (slice_get places i)) e)
+  pub body_part : {site : Site} {e : Element} {c : Call} {t : Tree} {before s : State} (time : Time)
       → law.ComesTo site e before → element_call e ≡ Some c → element_body e ≡ Some t → law.Fits site s → law.IsWell s
-      → law.IsPart (One site place e) i s (Whole (body_at site i) t)
-  pub inverse_part : {site : Site} {place : Option Place} {e : Element} {t : Tree} {before s : State} (i : ℕ)
+      → law.IsPart (One site e) (number_of time) s (Whole (body_at site time) t)
+  pub inverse_part : {site : Site} {e : Element} {t : Tree} {before s : State} (i : ℕ)
       → law.ComesTo site e before → element_inverse e ≡ Some t → law.Fits site s → law.IsWell s
-      → law.IsPart (One site place e) i s (Whole (inverse_at site i) t)
-  pub block_part : {site : Site} {place : Option Place} {e : Element} {t : Decorator} {x : Tree} {before s : State}
+      → law.IsPart (One site e) i s (Whole (inverse_at site i) t)
+  pub block_part : {site : Site} {e : Element} {t : Decorator} {x : Tree} {before s : State}
       {v : CallView} → ComesToTag p law site e inclusion_tag t before v → IsBlockAlone p t before v
       → element_body e ≡ Some x → law.Fits site s → law.IsWell s
-      → law.IsPart (One site place e) 0 s (Whole (body_at site 0) x)
+      → law.IsPart (One site e) 0 s (Whole (body_at site (as_part 0)) x)
   -- what the name of an inclusion's tag finds, begun in a state n with the indentation that the tag shows in one before
-  pub local_part : {site : Site} {place : Option Place} {e : Element} {t : Decorator} {x : Tree} {before s n : State}
+  pub local_part : {site : Site} {e : Element} {t : Decorator} {x : Tree} {before s n : State}
       {v : CallView} {k : Option (List Piece)} → ComesToTag p law site e inclusion_tag t before v
       → Finds p t before v (is_local x) → law.IsWell s → partial_in s.blocks v.name ≡ Some x → law.Fits site s
       → law.Fits site n → law.IsWell (begun s t k n)
-      → law.IsPart (One site place e) 1 (begun s t k n) (Whole (included_at site x) x)
-  pub registered_part : {site : Site} {place : Option Place} {e : Element} {t : Decorator} {x : Tree} {before s n : State}
+      → law.IsPart (One site e) 1 (begun s t k n) (Whole (included_at site x) x)
+  pub registered_part : {site : Site} {e : Element} {t : Decorator} {x : Tree} {before s n : State}
       {v : CallView} {k : Option (List Piece)} → ComesToTag p law site e inclusion_tag t before v
       → Finds p t before v (is_registered x) → law.Fits site s → law.Fits site n → law.IsWell (begun s t k n)
-      → law.IsPart (One site place e) 1 (begun s t k n) (Whole (included_at site x) x)
-  pub own_block_part : {site : Site} {place : Option Place} {e : Element} {t : Decorator} {x : Tree} {before s n : State}
+      → law.IsPart (One site e) 1 (begun s t k n) (Whole (included_at site x) x)
+  pub own_block_part : {site : Site} {e : Element} {t : Decorator} {x : Tree} {before s n : State}
       {v : CallView} {k : Option (List Piece)} → ComesToTag p law site e inclusion_tag t before v
       → Finds p t before v (is_own_block x) → element_body e ≡ Some x → law.Fits site s → law.Fits site n
-      → law.IsWell (begun s t k n) → law.IsPart (One site place e) 0 (begun s t k n) (Whole (body_at site 0) x)
+      → law.IsWell (begun s t k n) → law.IsPart (One site e) 0 (begun s t k n) (Whole (body_at site (as_part 0)) x)
   -- what is written
   pub text_written : {site : Site} {t : Text} {s : State} → law.ComesTo site (raw_string t) s → law.Fits site s
       → law.IsWell s → law.MayWrite (put (of_text site) s.indent t s.line).0

@@ -8,8 +8,8 @@ use Rattle.handlebars_tags.specs.Trim.{is_blank}
 use Rattle.handlebars_template.specs.Tree.{Tree, tree, Elements, no_elements, element, Element, raw_string, html_expression, expression, helper_block, decorator_expression, decorator_block, partial_expression, partial_block, comment, call, Decorator, decorator, decorator_body, Bodies, bodies, bodies_body, bodies_inverse, Body, no_body, body}
 use Rattle.handlebars_helpers.specs.Own.{renders_body_in}
 use Rattle.handlebars_meaning.specs.Compiled.{IsBlank, IsAsCompiled, AreAsCompiled, IsElementAsCompiled, IsTagAsCompiled, IsBodyAsCompiled, HandsOverCompiled}
-use Rattle.handlebars_meaning.specs.Origins.{nth, nth_in, body_tree, element_body, element_inverse, decorator_tag, inclusion_tag, is_html, tree_at, element_at, is_raw_tree, is_raw_site, own_indent, AreIndents, around_first, around_body, around_inverse, around_block, around_included, around_own_block, IsHandedOver, IsTreeOfRun, is_first, is_body, is_inverse, is_local_of, is_stored, IsLocalOfRun, set_by, stood_in, handed_over}
-use Rattle.handlebars_meaning.specs.Sites.{TreeSite, body_at, inverse_at, included_at, Site, element_in}
+use Rattle.handlebars_meaning.specs.Origins.{nth, nth_in, body_tree, element_body, element_inverse, decorator_tag, inclusion_tag, is_html, tree_site_of, tree_at, element_at, is_raw_tree, is_raw_site, own_indent, AreIndents, around_first, around_body, around_inverse, around_block, around_included, around_own_block, IsHandedOver, IsTreeOfRun, is_first, is_body, is_inverse, is_local_of, is_stored, IsLocalOfRun, set_by, stood_in, handed_over}
+use Rattle.handlebars_meaning.specs.Sites.{Time, TreeSite, body_at, inverse_at, included_at, Site, element_in}
 use Rattle.handlebars_meaning.specs.State.{Setting, partial_in}
 use Rattle.handlebars_meaning.specs.Visits.{Visit}
 use Rattle.handlebars_scope.specs.Scopes.{Frame}
@@ -105,44 +105,43 @@ module _ (p : Setting) (u : Tree) (blocks : List Frame) (vs : List Visit) (first
   abbrev IsWellAt : TreeSite → Type 0
   IsWellAt at = ((t : Tree) → tree_at u at ≡ Some t → IsAsCompiled t) × (is_raw_tree u at ≡ false)
 
-  module _ (at : TreeSite) (i : ℕ) (well : IsWellAt at) where
-    abbrev here : Site
-    here = element_in at i
+  element-compiled : (site : Site) → IsWellAt (tree_site_of site) → (e : Element) → element_at u site ≡ Some e
+      → IsElementAsCompiled e
+  element-compiled (element_in at i place) well e is = nth_in-compiled (tree_at u at) i e well.0 is
 
-    element-compiled : (e : Element) → element_at u here ≡ Some e → IsElementAsCompiled e
-    element-compiled e is = nth_in-compiled (tree_at u at) i e well.0 is
-
+  module _ (site : Site) (well : IsWellAt (tree_site_of site)) where
     -- where the element isn't an html expression, escaping is on in what it renders
-    is_raw_site-off : (e : Element) → element_at u here ≡ Some e → is_html e ≡ false → is_raw_site u here ≡ false
+    is_raw_site-off : (e : Element) → element_at u site ≡ Some e → is_html e ≡ false → is_raw_site u site ≡ false
     is_raw_site-off e is html =
-        is_raw_site-at u here e is ∙ ap (λ (b : Bool). b || is_raw_tree u at) html ∙ well.1
+        is_raw_site-at u site e is ∙ ap (λ (b : Bool). b || is_raw_tree u (tree_site_of site)) html ∙ well.1
 
-    body-well : (j : ℕ) (t : Tree) → option_and_then element_body (element_at u here) ≡ Some t → IsWellAt (body_at here j)
-    body-well j t is =
-        let r = read-at (element_at u here) element_body t is in (
-          λ x same. let y = read-at (element_at u here) element_body x same in
-              (element_body-compiled y.0 x (element-compiled y.0 y.1) y.2).0,
-          is_raw_site-off r.0 r.1 (element_body-compiled r.0 t (element-compiled r.0 r.1) r.2).1,
+    body-well : (time : Time) (t : Tree) → option_and_then element_body (element_at u site) ≡ Some t
+        → IsWellAt (body_at site time)
+    body-well time t is =
+        let r = read-at (element_at u site) element_body t is in (
+          λ x same. let y = read-at (element_at u site) element_body x same in
+              (element_body-compiled y.0 x (element-compiled site well y.0 y.1) y.2).0,
+          is_raw_site-off r.0 r.1 (element_body-compiled r.0 t (element-compiled site well r.0 r.1) r.2).1,
         )
 
-    inverse-well : (j : ℕ) (t : Tree) → option_and_then element_inverse (element_at u here) ≡ Some t
-        → IsWellAt (inverse_at here j)
+    inverse-well : (j : ℕ) (t : Tree) → option_and_then element_inverse (element_at u site) ≡ Some t
+        → IsWellAt (inverse_at site j)
     inverse-well j t is =
-        let r = read-at (element_at u here) element_inverse t is in (
-          λ x same. let y = read-at (element_at u here) element_inverse x same in
-              (element_inverse-compiled y.0 x (element-compiled y.0 y.1) y.2).0,
-          is_raw_site-off r.0 r.1 (element_inverse-compiled r.0 t (element-compiled r.0 r.1) r.2).1,
+        let r = read-at (element_at u site) element_inverse t is in (
+          λ x same. let y = read-at (element_at u site) element_inverse x same in
+              (element_inverse-compiled y.0 x (element-compiled site well y.0 y.1) y.2).0,
+          is_raw_site-off r.0 r.1 (element_inverse-compiled r.0 t (element-compiled site well r.0 r.1) r.2).1,
         )
 
-    included-tag : (tag : Decorator) → option_and_then inclusion_tag (element_at u here) ≡ Some tag
-        → IsTagAsCompiled tag × (is_raw_site u here ≡ false)
+    included-tag : (tag : Decorator) → option_and_then inclusion_tag (element_at u site) ≡ Some tag
+        → IsTagAsCompiled tag × (is_raw_site u site ≡ false)
     included-tag tag is =
-        let r = read-at (element_at u here) inclusion_tag tag is in
-        let y = inclusion_tag-compiled r.0 tag (element-compiled r.0 r.1) r.2 in
+        let r = read-at (element_at u site) inclusion_tag tag is in
+        let y = inclusion_tag-compiled r.0 tag (element-compiled site well r.0 r.1) r.2 in
         (y.0, is_raw_site-off r.0 r.1 y.1)
 
-    included-well : (x : Tree) (tag : Decorator) → option_and_then inclusion_tag (element_at u here) ≡ Some tag
-        → IsAsCompiled x → IsWellAt (included_at here x)
+    included-well : (x : Tree) (tag : Decorator) → option_and_then inclusion_tag (element_at u site) ≡ Some tag
+        → IsAsCompiled x → IsWellAt (included_at site x)
     included-well x tag is h = (λ t same. subst IsAsCompiled (Some-injective x t same) h, (included-tag tag is).1)
 
   handed-compiled : (f : Frame) (n : Text) (t : Tree) → IsHandedOver p u vs f → f.partial n ≡ Some t → IsAsCompiled t
@@ -153,37 +152,37 @@ module _ (p : Setting) (u : Tree) (blocks : List Frame) (vs : List Visit) (first
   mutual
     pub IsTreeOfRun-well : {at : TreeSite} → IsTreeOfRun p u blocks vs at → IsWellAt at
     IsTreeOfRun-well is_first = (λ t is. subst IsAsCompiled (Some-injective u t is) first, refl)
-    IsTreeOfRun-well (is_body {at = at} {i = i} {j = j} {t = t} h visited is) =
-        body-well at i (IsTreeOfRun-well h) j t is
-    IsTreeOfRun-well (is_inverse {at = at} {i = i} {j = j} {t = t} h visited is) =
-        inverse-well at i (IsTreeOfRun-well h) j t is
-    IsTreeOfRun-well (is_local_of {at = at} {i = i} {t = t} {tag = tag} h tagged finds local) =
-        included-well at i (IsTreeOfRun-well h) t tag tagged.stands (IsLocalOfRun-compiled local)
-    IsTreeOfRun-well (is_stored {at = at} {i = i} {t = t} {tag = tag} {s = s} {v = v} h tagged finds) =
-        included-well at i (IsTreeOfRun-well h) t tag tagged.stands (stored v.name t (local_or_other-registered
+    IsTreeOfRun-well (is_body {site = site} {time = time} {t = t} h visited is) =
+        body-well site (IsTreeOfRun-well h) time t is
+    IsTreeOfRun-well (is_inverse {site = site} {j = j} {t = t} h visited is) =
+        inverse-well site (IsTreeOfRun-well h) j t is
+    IsTreeOfRun-well (is_local_of {site = site} {t = t} {tag = tag} h tagged finds local) =
+        included-well site (IsTreeOfRun-well h) t tag tagged.stands (IsLocalOfRun-compiled local)
+    IsTreeOfRun-well (is_stored {site = site} {t = t} {tag = tag} {s = s} {v = v} h tagged finds) =
+        included-well site (IsTreeOfRun-well h) t tag tagged.stands (stored v.name t (local_or_other-registered
         (partial_in s.blocks v.name) (p.parts.template v.name) (decorator_body tag) t finds.finds))
 
     IsLocalOfRun-compiled : {n : Text} {t : Tree} → IsLocalOfRun p u blocks vs n t → IsAsCompiled t
-    IsLocalOfRun-compiled (set_by {at = at} {i = i} {t = t} {tag = tag} h tagged sets) =
-        let r = read-at (element_at u (element_in at i)) decorator_tag tag tagged.stands in
+    IsLocalOfRun-compiled (set_by {site = site} {t = t} {tag = tag} h tagged sets) =
+        let r = read-at (element_at u site) decorator_tag tag tagged.stands in
         decorator_body-compiled tag t (decorator_tag-compiled r.0 tag
-        (element-compiled at i (IsTreeOfRun-well h) r.0 r.1) r.2) sets.is
+        (element-compiled site (IsTreeOfRun-well h) r.0 r.1) r.2) sets.is
     IsLocalOfRun-compiled (stood_in {n = n} {t = t} f has is) = All-has _ blocks f before has n t is
     IsLocalOfRun-compiled (handed_over {n = n} {t = t} f by is) = handed-compiled f n t by is
 
   -- ---- indentations
 
-  around-of_run : {at : TreeSite} {i : ℕ} {x : Tree} → IsTreeOfRun p u blocks vs (included_at (element_in at i) x)
-      → IsTreeOfRun p u blocks vs at
+  around-of_run : {site : Site} {x : Tree} → IsTreeOfRun p u blocks vs (included_at site x)
+      → IsTreeOfRun p u blocks vs (tree_site_of site)
   around-of_run (is_local_of h tagged finds local) = h
   around-of_run (is_stored h tagged finds) = h
 
-  body-of_run : {at : TreeSite} {i j : ℕ} → IsTreeOfRun p u blocks vs (body_at (element_in at i) j)
-      → IsTreeOfRun p u blocks vs at
+  body-of_run : {site : Site} {time : Time} → IsTreeOfRun p u blocks vs (body_at site time)
+      → IsTreeOfRun p u blocks vs (tree_site_of site)
   body-of_run (is_body h visited is) = h
 
-  inverse-of_run : {at : TreeSite} {i j : ℕ} → IsTreeOfRun p u blocks vs (inverse_at (element_in at i) j)
-      → IsTreeOfRun p u blocks vs at
+  inverse-of_run : {site : Site} {j : ℕ} → IsTreeOfRun p u blocks vs (inverse_at site j)
+      → IsTreeOfRun p u blocks vs (tree_site_of site)
   inverse-of_run (is_inverse h visited is) = h
 
   pub AreIndents-blank : {at : TreeSite} {t : Text} → AreIndents p u vs at t → IsTreeOfRun p u blocks vs at → IsBlank t
@@ -191,11 +190,11 @@ module _ (p : Setting) (u : Tree) (blocks : List Frame) (vs : List Visit) (first
   AreIndents-blank (around_body a is) h = AreIndents-blank a (body-of_run h)
   AreIndents-blank (around_block a tagged alone) h = AreIndents-blank a (body-of_run h)
   AreIndents-blank (around_inverse a) h = AreIndents-blank a (inverse-of_run h)
-  AreIndents-blank (around_included {at = at} {i = i} {tag = tag} {t = t} a is) h =
+  AreIndents-blank (around_included {site = site} {tag = tag} {t = t} a is) h =
       let outer = around-of_run h in
       IsBlank-append t (own_indent tag) (AreIndents-blank a outer)
-      (own_indent-blank tag (included-tag at i (IsTreeOfRun-well outer) tag is).0)
-  AreIndents-blank (around_own_block {at = at} {i = i} {tag = tag} {t = t} a tagged finds) h =
+      (own_indent-blank tag (included-tag site (IsTreeOfRun-well outer) tag is).0)
+  AreIndents-blank (around_own_block {site = site} {tag = tag} {t = t} a tagged finds) h =
       let outer = body-of_run h in
       IsBlank-append t (own_indent tag) (AreIndents-blank a outer)
-      (own_indent-blank tag (included-tag at i (IsTreeOfRun-well outer) tag tagged.stands).0)
+      (own_indent-blank tag (included-tag site (IsTreeOfRun-well outer) tag tagged.stands).0)

@@ -5,7 +5,6 @@ use Rattle.serde_json.specs.Data.{Data}
 use Rattle.handlebars_base.specs.Answers.{gives}
 use Rattle.handlebars_base.specs.PathAndData.{PathAndData}
 use Rattle.handlebars_base.specs.Scoped.{data_in}
-use Rattle.handlebars_template.specs.Place.{Place}
 use Rattle.handlebars_template.specs.Tree.{Tree, Element, Decorator, decorator_name, decorator_args, decorator_body, decorator_marks, Body, no_body, body}
 use Rattle.handlebars_scope.specs.LineState.{LineState}
 use Rattle.handlebars_helpers.specs.CallView.{CallView}
@@ -16,7 +15,7 @@ use Rattle.handlebars_meaning.specs.Means.{line_at, shown_tag, include_tag, rend
 use Rattle.handlebars_meaning.specs.Origins.{body_tree, inclusion_tag, Finds, IsBlockAlone, ahead_of_local, ahead_of_registered, in_place_of_kept}
 use Rattle.handlebars_meaning.specs.Pieces.{Piece}
 use Rattle.handlebars_meaning.specs.Questions.{value_of, view_of, IsAnswered}
-use Rattle.handlebars_meaning.specs.Sites.{TreeSite, body_at, included_at, Site}
+use Rattle.handlebars_meaning.specs.Sites.{as_part, TreeSite, body_at, included_at, Site}
 use Rattle.handlebars_meaning.specs.State.{Setting, State, push_frame, nearest_variables, partial_in}
 use Rattle.handlebars_meaning.specs.Steps.{Task, One, Whole, Steps, Get, Set, Do, Prog, return, ◌>>=◌, ◌>>◌}
 use Rattle.handlebars_laws.proofs.Closed.{ComesToTag, element_body-tag, MayKeep, begun, Closed}
@@ -61,10 +60,10 @@ local_or_other-own None None (body x) t is = ap own_found is
 
 -- ---- the tag of an inclusion, to which the run came in a state before
 
-module _ (p : Setting) (law : Law) (closed : Closed p law) (site : Site) (place : Option Place) (e : Element)
+module _ (p : Setting) (law : Law) (closed : Closed p law) (site : Site) (e : Element)
     (t : Decorator) (tag : inclusion_tag e ≡ Some t) (before : State) (comes : law.ComesTo site e before) where
   abbrev this : Task
-  this = One site place e
+  this = One site e
 
   abbrev Goes : State → Prog (Unit {0}) → Type 1
   Goes s m = Leads p law this 0 any s m
@@ -80,7 +79,7 @@ module _ (p : Setting) (law : Law) (closed : Closed p law) (site : Site) (place 
 
   module _ (v : CallView) (tagged : ComesToTag p law site e inclusion_tag t before v) (alone : IsBlockAlone p t before v) where
     block_part : (x : Tree) → decorator_body t ≡ body x → (s : State) → law.Fits site s → law.IsWell s
-        → law.IsPart this 0 s (Whole (body_at site 0) x)
+        → law.IsPart this 0 s (Whole (body_at site (as_part 0)) x)
     block_part x is s fits h = closed.block_part tagged alone (element_body-tag e t tag ∙ ap body_tree is) fits h
 
     render_own_block-holds : (b : Body) → decorator_body t ≡ b → (s : State) → law.Fits site s
@@ -166,7 +165,7 @@ module _ (p : Setting) (law : Law) (closed : Closed p law) (site : Site) (place 
             include_tree-holds 1 (included_at site x) x (render_ahead site (decorator_body t))
             (λ n k fit h. closed.registered_part tagged finds fits fit h) fits
             (render_ahead-leads v tagged (ahead_of_registered finds) (decorator_body t) refl)
-        include_partial-holds (is_own_block x) is = include_tree-holds 0 (body_at site 0) x (return None)
+        include_partial-holds (is_own_block x) is = include_tree-holds 0 (body_at site (as_part 0)) x (return None)
             (λ n k fit h. closed.own_block_part tagged (record { other = other; no_kept = no_kept; finds = is })
             (element_body-tag e t tag ∙ ap body_tree (local_or_other-own (partial_in before.blocks v.name)
             (p.parts.template v.name) (decorator_body t) x is)) fits fit h) fits return-leads

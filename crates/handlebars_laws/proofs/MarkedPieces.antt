@@ -21,9 +21,9 @@ use Rattle.handlebars_meaning.specs.Answer.{Beginning, a_tree, FromName, is_stor
 use Rattle.handlebars_meaning.specs.Compiled.{IsBlank, IsAsCompiled, HandsOverCompiled}
 use Rattle.handlebars_meaning.specs.Laws.{IsPlain}
 use Rattle.handlebars_meaning.specs.Marked.{AllAsCompiled, MayHaveMarks, StandsIn, StandsMarked, IsOfEscaped, IsEscaped, IsBlankIndent, IndentsAreBlank, DataIsNoMarkup}
-use Rattle.handlebars_meaning.specs.Origins.{shown_call, is_html, element_at, is_raw_tree, IsWithin, IsOfShown, IsOfIndent, ComesFrom, HasOrigin, HaveOrigins, IsSiteOfRun, StandInTrees}
+use Rattle.handlebars_meaning.specs.Origins.{shown_call, is_html, element_at, is_raw_tree, tree_site_of, IsWithin, IsOfShown, IsOfIndent, ComesFrom, HasOrigin, HaveOrigins, IsSiteOfRun, StandInTrees}
 use Rattle.handlebars_meaning.specs.Pieces.{Origin, of_text, of_value, of_raw, of_word, of_step, of_indent, Piece, join}
-use Rattle.handlebars_meaning.specs.Sites.{Site, element_in}
+use Rattle.handlebars_meaning.specs.Sites.{Site}
 use Rattle.handlebars_meaning.specs.State.{Setting, first_state}
 use Rattle.handlebars_meaning.specs.Visits.{Visit, visits}
 use Rattle.handlebars_meaning.specs.Writing.{rendered_if_any}
@@ -140,8 +140,8 @@ module _ (p : Setting) (u : Tree) (blocks : List Frame) (vs : List Visit) (first
   -- ---- indentations
 
   IsOfIndent-blank : (site : Site) (t : Text) → IsOfIndent p u vs site t → IsBlank t
-  IsOfIndent-blank (element_in at i) t h = list_all-prefix is_blank t h.all h.is
-      (AreIndents-blank p u blocks vs first stored handed before h.indents (site-of_run _ h.visited.comes))
+  IsOfIndent-blank site t h = list_all-prefix is_blank t h.all h.is
+      (AreIndents-blank p u blocks vs first stored handed before h.indents (site-of_run _ h.visited.comes).0)
 
   ComesFrom-blank : (o : Origin) (t : Text) → ComesFrom p u vs o t → IsBlankIndent o t
   ComesFrom-blank (of_text site) t h = tt
@@ -159,11 +159,11 @@ module _ (p : Setting) (u : Tree) (blocks : List Frame) (vs : List Visit) (first
 
   raw-html : (site : Site) (found : Found) (t : Text) → IsOfShown p u vs false site found t
       → (c : Call) × (element_at u site ≡ Some (html_expression c))
-  raw-html (element_in at i) found t h =
-      let well = IsTreeOfRun-well p u blocks vs first stored handed before (site-of_run _ h.called.reached.comes) in
-      let r = read-at (element_at u (element_in at i)) shown_call (h.block, h.helper) h.called.stands in
-      let is : (is_html r.0 || is_raw_tree u at) ≡ true = sym (is_raw_site-at u (element_in at i) r.0 r.1) ∙ h.is_raw in
-      let html = html_of r.0 (or-false (is_html r.0) (is_raw_tree u at) well.1 is) in
+  raw-html site found t h =
+      let well = IsTreeOfRun-well p u blocks vs first stored handed before (site-of_run _ h.called.reached.comes).0 in
+      let r = read-at (element_at u site) shown_call (h.block, h.helper) h.called.stands in
+      let is : (is_html r.0 || is_raw_tree u (tree_site_of site)) ≡ true = sym (is_raw_site-at u site r.0 r.1) ∙ h.is_raw in
+      let html = html_of r.0 (or-false (is_html r.0) (is_raw_tree u (tree_site_of site)) well.1 is) in
       (html.0, r.1 ∙ ap (λ (e : Element). Some e) html.1)
     where
       or-false : (x y : Bool) → y ≡ false → (x || y) ≡ true → x ≡ true

@@ -6,7 +6,7 @@ use Rattle.handlebars_template.specs.Tree.{Tree}
 use Rattle.handlebars_meaning.specs.Means.{todo}
 use Rattle.handlebars_meaning.specs.Pieces.{Piece}
 use Rattle.handlebars_meaning.specs.Runs.{Outcome, Runs, done, did, did_over, stop, Means}
-use Rattle.handlebars_meaning.specs.Sites.{TreeSite, first_tree, body_at, inverse_at, included_at, Site, element_in}
+use Rattle.handlebars_meaning.specs.Sites.{number_of, TreeSite, first_tree, body_at, inverse_at, included_at, Site, element_in}
 use Rattle.handlebars_meaning.specs.State.{Setting, State}
 use Rattle.handlebars_meaning.specs.Steps.{Task, One, Whole}
 use Rattle.handlebars_meaning.specs.Visits.{Visit, arrival, visits, ComeOnce}
@@ -21,15 +21,15 @@ use Rattle.handlebars_laws.proofs.Walk.{todo-holds}
 abbrev mutual
   tree_address : TreeSite → List ℕ
   tree_address first_tree = []
-  tree_address (body_at site i) = address site ++ (i ∷ [])
+  tree_address (body_at site time) = address site ++ (number_of time ∷ [])
   tree_address (inverse_at site i) = address site ++ (i ∷ [])
   tree_address (included_at site t) = address site ++ (1 ∷ [])
 
   address : Site → List ℕ
-  address (element_in at i) = tree_address at ++ (i ∷ [])
+  address (element_in at i place) = tree_address at ++ (i ∷ [])
 
 abbrev task_address : Task → List ℕ
-task_address (One site place e) = address site
+task_address (One site e) = address site
 task_address (Whole at t) = tree_address at
 
 -- a site within the part of this number; and within one of a number from n on and below m
@@ -104,7 +104,7 @@ ComeBetween-part : (x t : Task) (n m i : ℕ) (s : State) (vs : List Visit) → 
     → task_address t ≡ task_address x ++ (m ∷ []) → ComeBetween (task_address t) 0 i vs
     → ComeBetween (task_address x) n (m + 1) (arrival t s ++ vs)
 unfolding IsIn IsBetween
-ComeBetween-part x (One site place e) n m i s vs le is h = (
+ComeBetween-part x (One site e) n m i s vs le is h = (
   ((m, le, omega arith, ([], is)), IsBetween-part (task_address x) n m i (address site) vs le is h.0),
   (All-weaker vs (λ w a. not-within (address site) 0 i (record { site = site; state = s }) w refl a) h.0, h.1),
 )
@@ -172,7 +172,7 @@ comes_in_order-closed p = record {
   begins_fits = λ h is. tt;
   begins_raw = λ h. tt;
   element_part = λ i h is behind. refl;
-  body_part = λ i comes call is fits h. refl;
+  body_part = λ time comes call is fits h. refl;
   inverse_part = λ i comes is fits h. refl;
   block_part = λ tagged alone is fits h. refl;
   local_part = λ tagged finds well is fits fit h. refl;

@@ -1,5 +1,5 @@
 -- Pieces that have origins: fronts of them, and those of a text that is put.
-use Rattle.std.proofs.Common.{◌≡◌, List, [], ◌∷◌, Bool, true, false, Option, Some, unwrap_or, if◌then◌else◌}
+use Rattle.std.proofs.Common.{◌≡◌, List, [], ◌∷◌, Bool, true, false, Option, None, Some, unwrap_or, if◌then◌else◌, sym, append-nil}
 use Rattle.std.specs.List.{AllByRecursion}
 use Rattle.handlebars_base.specs.Bytes.{Text}
 use Rattle.handlebars_base.specs.Outputs.{IsPrefix}
@@ -107,14 +107,15 @@ module _ (p : Setting) (u : Tree) (vs : List Visit) where
   pub put-origins : (o : Origin) (i : Option Text) (t : Text) (line : LineState) (e : Element)
       → element_at u (site_of o) ≡ Some e → IsVisited vs (site_of o) → AreIndents p u vs (tree_site_of (site_of o)) (unwrap_or i [])
       → ((a : Text) → IsWithin a t → ComesFrom p u vs o a) → HaveOrigins p u vs (put o i t line).0
-  put-origins o i t line e stands visited indents comes =
-      let own = pieces_of-origins (of_indent (site_of o)) (unwrap_or i []) (record {
+  put-origins o None t line e stands visited indents comes = pieces_of-origins o t (comes t (record { left = []; right = []; is = sym (append-nil t) }))
+  put-origins o (Some i) t line e stands visited indents comes =
+      let own = pieces_of-origins (of_indent (site_of o)) i (record {
         writer = e;
         stands = stands;
         visited = visited;
-        all = unwrap_or i [];
+        all = i;
         indents = indents;
-        is = all_begins (unwrap_or i []);
+        is = all_begins i;
       }) in
       All-append (HasOrigin p u vs) (pieces_before o i t line) (pieces_between o (indent_pieces o i) (lines_of t))
       (pieces_if-origins (takes_indent line t) (indent_pieces o i) own)

@@ -24,7 +24,7 @@ use Rattle.handlebars_meaning.specs.Inclusion.{Partial, is_local, is_registered,
 use Rattle.handlebars_meaning.specs.Means.{without_escaping, on_line, line_in, line_at, render_chosen, render_helped, render_call, render_hook, render_found, render_lone_as, render_lone, shown_tag, set_partial, do_deed, do_deeds, render_decorator, include_tag, render_partial, render_expression, render_element, render_elements, todo}
 use Rattle.handlebars_meaning.specs.Pieces.{Origin, of_text, of_value, of_raw, Piece}
 use Rattle.handlebars_meaning.specs.Questions.{Question, Reply}
-use Rattle.handlebars_meaning.specs.Sites.{TreeSite, body_at, inverse_at, included_at, Site}
+use Rattle.handlebars_meaning.specs.Sites.{as_turn, as_part, TreeSite, body_at, inverse_at, included_at, Site}
 use Rattle.handlebars_meaning.specs.State.{Setting, State, push_frame, pop_frame, with_nearest, nearest_variables}
 use Rattle.handlebars_meaning.specs.Steps.{Task, One, Whole, Steps, Done, Refuse, Write, Get, Set, Ask, Do, Capture, Find, CheckLimit, Prog, return, ◌>>=◌, ◌>>◌, answer}
 use Rattle.handlebars_meaning.specs.Writing.{write_text, rendered_if_any, write_rendered, write_value}
@@ -133,7 +133,7 @@ module _ (p : Setting) (n : Text) where
       unfolding ◌>>=◌ ◌>>◌
       take_turns-goes i path [] s c h k l g = g s c h
       take_turns-goes i path (t ∷ ts) s c h k l g =
-          both_get (both_set (render_branch-goes (body_at site i) x.body (with_nearest (turn_frame path x.binding t) s) c h
+          both_get (both_set (render_branch-goes (body_at site (as_turn i)) x.body (with_nearest (turn_frame path x.binding t) s) c h
           _ _ (λ z d is. take_turns-goes (i + 1) path ts z d is k l g)))
 
       render_with-goes : (base : Base) (s : State) (c : Option Text)
@@ -141,21 +141,21 @@ module _ (p : Setting) (n : Text) where
       unfolding ◌>>=◌
       render_with-goes base s c h k l g =
           both_get (in_block-goes (with_block base x.binding (nearest_variables s.blocks)) (render_body site 0 x) s c
-          (render_branch-goes (body_at site 0) x.body _ c) h k l g)
+          (render_branch-goes (body_at site (as_part 0)) x.body _ c) h k l g)
 
       render_word-goes : (block b : Bool) (s : State) (c : Option Text)
           → Goes s c (render_word site x block b) (render_word site x block b)
       render_word-goes false b s c h k l g = both_write (g s c h)
-      render_word-goes true true s c h k l g = render_branch-goes (body_at site 0) x.body s c h k l g
+      render_word-goes true true s c h k l g = render_branch-goes (body_at site (as_part 0)) x.body s c h k l g
       render_word-goes true false s c h k l g = render_branch-goes (inverse_at site 0) x.inverse s c h k l g
 
       take_step-goes : (i : ℕ) (step : Step) (s : State) (c : Option Text)
           → Goes s c (take_step site x i step) (take_step site x i step)
       take_step-goes i (writes t) s c h k l g = both_write (g s c h)
-      take_step-goes i renders_body s c h k l g = render_branch-goes (body_at site i) x.body s c h k l g
+      take_step-goes i renders_body s c h k l g = render_branch-goes (body_at site (as_part i)) x.body s c h k l g
       take_step-goes i renders_inverse s c h k l g = render_branch-goes (inverse_at site i) x.inverse s c h k l g
       take_step-goes i (renders_body_in f) s c h k l g =
-          in_block-goes f (render_body site i x) s c (render_branch-goes (body_at site i) x.body _ c) h k l g
+          in_block-goes f (render_body site i x) s c (render_branch-goes (body_at site (as_part i)) x.body _ c) h k l g
 
       take_steps-goes : (i : ℕ) (steps : List Step) (s : State) (c : Option Text)
           → Goes s c (take_steps site x i steps) (take_steps site x i steps)
@@ -166,7 +166,7 @@ module _ (p : Setting) (n : Text) where
 
       carry_out-goes : (choice : Choice) (s : State) (c : Option Text)
           → Goes s c (carry_out site x choice) (carry_out site x choice)
-      carry_out-goes the_body s c h k l g = render_branch-goes (body_at site 0) x.body s c h k l g
+      carry_out-goes the_body s c h k l g = render_branch-goes (body_at site (as_part 0)) x.body s c h k l g
       carry_out-goes the_inverse s c h k l g = render_branch-goes (inverse_at site 0) x.inverse s c h k l g
       carry_out-goes (body_in_block base) s c h k l g = render_with-goes base s c h k l g
       carry_out-goes (body_in_turns path ts) s c h k l g =
@@ -271,7 +271,7 @@ module _ (p : Setting) (n : Text) where
     include_partial-goes v (is_registered t) s c =
         include_tree-goes v (included_at site t) t (render_ahead site v.body) (render_ahead-goes v.body) s c
     include_partial-goes v (is_own_block t) s c =
-        include_tree-goes v (body_at site 0) t (return None) (λ z d is f g next. next None z d is) s c
+        include_tree-goes v (body_at site (as_part 0)) t (return None) (λ z d is f g next. next None z d is) s c
     include_partial-goes v is_nowhere s c = λ h k l g. both_refuse
 
     include_other-goes : (v : DecoratorView) (found : Partial) (b : Bool) (s : State) (c : Option Text)
@@ -355,7 +355,7 @@ module _ (p : Setting) (n : Text) where
 
   pub todo-twin : (t : Task) (s : State) (c : Option Text) → AlikeNames n s.current c → Twin p n s c (todo t) (todo t)
   unfolding ◌>>=◌ ◌>>◌
-  todo-twin (One site place e) s c h =
+  todo-twin (One site e) s c h =
       render_element-goes site e s c h (λ u. Done) (λ u. Done) (λ z d is. both_end is)
   todo-twin (Whole at (tree m es places)) s c h =
       both_get (both_set (render_elements-goes at 0 es places (record s { current = m }) m (λ x apart. refl) (λ u. Done)

@@ -1,5 +1,5 @@
 -- All that a run writes has an origin, and each site to which it comes stands in a tree of the run.
-use Rattle.std.proofs.Common.{◌≡◌, ℕ, List, [], Bool, true, false, not, ◌||◌, refl, sym, ap, ◌∙◌, subst, unwrap_or, Option, Some, None, option_and_then, arith}
+use Rattle.std.proofs.Common.{◌≡◌, List, [], Bool, true, false, not, ◌||◌, refl, sym, ap, ◌∙◌, subst, unwrap_or, Option, Some, None, option_and_then, arith}
 use Rattle.std.specs.List.{Contains}
 use Rattle.std.proofs.lemmas.List.Elements.{Contains-append_left, Contains-append_right}
 use Rattle.handlebars_base.specs.Bytes.{Text}
@@ -10,13 +10,12 @@ use Rattle.handlebars_template.specs.Tree.{Tree, Element, html_expression, Call,
 use Rattle.handlebars_scope.specs.Scopes.{Frame}
 use Rattle.handlebars_helpers.specs.CallView.{CallView}
 use Rattle.handlebars_helpers.specs.Turns.{turn_frame}
-use Rattle.handlebars_meaning.specs.Inclusion.{is_local, is_registered}
 use Rattle.handlebars_meaning.specs.Laws.{IsPlain, alone}
 use Rattle.handlebars_meaning.specs.Means.{render_alone}
-use Rattle.handlebars_meaning.specs.Origins.{IsWithin, nth_in, element_call, element_body, element_inverse, decorator_tag, inclusion_tag, tree_site_of, tree_at, element_at, shown_call, is_html, is_raw_tree, is_raw_site, WritesValue, IsReached, IsVisited, IsCalled, Shows, IsOfShown, HaveOrigins, IsTagged, Finds, AreIndents, SetsPartial, set_by, handed_over, IsLocalOfRun, IsTreeOfRun, is_first, is_body, is_inverse, is_local_of, is_stored, IsSiteOfRun, StandInTrees}
+use Rattle.handlebars_meaning.specs.Origins.{IsWithin, nth_in, nth_place, element_call, element_body, element_inverse, tree_site_of, tree_at, element_at, shown_call, is_html, is_raw_tree, is_raw_site, WritesValue, IsReached, IsVisited, IsCalled, Shows, IsOfShown, HaveOrigins, IsTagged, AreIndents, around_body, around_block, around_inverse, set_by, handed_over, IsTreeOfRun, is_first, is_body, is_inverse, is_local_of, is_stored, IsSiteOfRun, StandInTrees}
 use Rattle.handlebars_meaning.specs.Pieces.{of_text, of_value, of_raw, of_step, Piece}
 use Rattle.handlebars_meaning.specs.Runs.{Outcome, Runs, Means}
-use Rattle.handlebars_meaning.specs.Sites.{TreeSite, first_tree, body_at, inverse_at, included_at, Site, element_in}
+use Rattle.handlebars_meaning.specs.Sites.{TreeSite, first_tree, Site, element_in}
 use Rattle.handlebars_meaning.specs.State.{Setting, State, with_partial}
 use Rattle.handlebars_meaning.specs.Steps.{Task, One, Whole, Done, Do}
 use Rattle.handlebars_meaning.specs.Visits.{Visit, arrival, visits}
@@ -25,7 +24,7 @@ use Rattle.handlebars_laws.proofs.Closed.{ComesToCall, ComesToTag, Closed}
 use Rattle.handlebars_laws.proofs.Law.{Law, Obeys, IsSound, Runs-obeys}
 use Rattle.handlebars_laws.proofs.Lists.{All-append}
 use Rattle.handlebars_laws.proofs.OriginPieces.{HaveOrigins-front, pieces_of-origins, put-origins}
-use Rattle.handlebars_laws.proofs.RunStates.{block-indents, body_at-indents, inverse_at-indents, included_at-indents, own_block-indents, no_indent-indents, IsFrameOfRun, IsOfRun, IsBehind, newest-origins, outer_frames-frames, nearest_as-frames, partial_in-local, with_partial-frame, turn_frame-frame, with_block-frame, first-of_run}
+use Rattle.handlebars_laws.proofs.RunStates.{included_at-indents, own_block-indents, no_indent-indents, IsFrameOfRun, IsOfRun, IsBehind, newest-origins, outer_frames-frames, nearest_as-frames, partial_in-local, with_partial-frame, turn_frame-frame, with_block-frame, first-of_run}
 use Rattle.handlebars_laws.proofs.Walk.{todo-holds}
 use Rattle.handlebars_laws.proofs.Within.{all_begins}
 
@@ -35,21 +34,21 @@ raw-not false b is = ap not (sym is)
 
 -- whether escaping is off around an element
 abbrev pub is_raw_around : Tree → Site → Bool
-is_raw_around u (element_in at i) = is_raw_tree u at
+is_raw_around u site = is_raw_tree u (tree_site_of site)
 
 -- the tree in which a part begins
 abbrev tree_before : Task → TreeSite
-tree_before (One site place e) = tree_site_of site
+tree_before (One site e) = tree_site_of site
 tree_before (Whole at t) = at
 
 -- whether it is off where a part begins
 abbrev is_raw_before : Tree → Task → Bool
-is_raw_before u (One site place e) = is_raw_around u site
+is_raw_before u (One site e) = is_raw_around u site
 is_raw_before u (Whole at t) = is_raw_tree u at
 
 pub is_raw_site-at : (u : Tree) (site : Site) (e : Element) → element_at u site ≡ Some e
     → is_raw_site u site ≡ (is_html e || is_raw_around u site)
-is_raw_site-at u (element_in at i) e is = ap (λ (o : Option Element). with_or o is_html false || is_raw_tree u at) is
+is_raw_site-at u (element_in at i place) e is = ap (λ (o : Option Element). with_or o is_html false || is_raw_tree u at) is
 
 -- what is read of the element at a site
 element_at-read : {A : Type 0} (u : Tree) (site : Site) (read : Element → Option A) (e : Element) (x : Option A)
@@ -60,37 +59,13 @@ IsReached-visited : {vs : List Visit} {site : Site} {s : State} → IsReached vs
 IsReached-visited reached = record { state = reached.first; comes = reached.comes }
 
 module _ (p : Setting) (u : Tree) (blocks : List Frame) (vs : List Visit) where
-  -- ---- trees that stand in those of the run
-
-  body_at-of_run : (site : Site) (i : ℕ) (t : Tree) → IsSiteOfRun p u blocks vs site → IsVisited vs site
-      → option_and_then element_body (element_at u site) ≡ Some t → IsTreeOfRun p u blocks vs (body_at site i)
-  body_at-of_run (element_in at j) i t h visited is = is_body h visited is
-
-  inverse_at-of_run : (site : Site) (i : ℕ) (t : Tree) → IsSiteOfRun p u blocks vs site → IsVisited vs site
-      → option_and_then element_inverse (element_at u site) ≡ Some t → IsTreeOfRun p u blocks vs (inverse_at site i)
-  inverse_at-of_run (element_in at j) i t h visited is = is_inverse h visited is
-
-  included_at-local : (site : Site) (x : Tree) (t : Decorator) (s : State) (v : CallView) → IsSiteOfRun p u blocks vs site
-      → IsTagged p u vs site inclusion_tag t s v → Finds p t s v (is_local x) → IsLocalOfRun p u blocks vs v.name x
-      → IsTreeOfRun p u blocks vs (included_at site x)
-  included_at-local (element_in at j) x t s v h tagged finds is = is_local_of h tagged finds is
-
-  included_at-stored : (site : Site) (x : Tree) (t : Decorator) (s : State) (v : CallView) → IsSiteOfRun p u blocks vs site
-      → IsTagged p u vs site inclusion_tag t s v → Finds p t s v (is_registered x)
-      → IsTreeOfRun p u blocks vs (included_at site x)
-  included_at-stored (element_in at j) x t s v h tagged finds = is_stored h tagged finds
-
-  set-local : (site : Site) (n : Text) (x : Tree) (t : Decorator) (s : State) (v : CallView) → IsSiteOfRun p u blocks vs site
-      → IsTagged p u vs site decorator_tag t s v → SetsPartial p t s v n x → IsLocalOfRun p u blocks vs n x
-  set-local (element_in at j) n x t s v h tagged sets = set_by h tagged sets
-
   -- an element or a tree that stands at its site, in a tree of the run
   abbrev Stands : Task → Type 0
-  Stands (One site place e) = IsSiteOfRun p u blocks vs site × (element_at u site ≡ Some e)
+  Stands (One site e) = IsSiteOfRun p u blocks vs site × (element_at u site ≡ Some e)
   Stands (Whole at t) = IsTreeOfRun p u blocks vs at × (tree_at u at ≡ Some t)
 
   arrival-stands : (t : Task) (s : State) → Stands t → StandInTrees p u blocks vs (arrival t s)
-  arrival-stands (One site place e) s h = (h.0, tt)
+  arrival-stands (One site e) s h = (h.0, tt)
   arrival-stands (Whole at t) s h = tt
 
   -- ---- the law
@@ -212,7 +187,7 @@ module _ (p : Setting) (u : Tree) (blocks : List Frame) (vs : List Visit) where
         behind refl refl (record {
           kept = h.kept;
           frames = nearest_as-frames p u blocks vs (with_partial name x) s.blocks (with_partial-frame p u blocks vs name x
-              (set-local site name x t before v tagged.comes.of_run (ComesToTag-tagged tagged) sets)) h.frames;
+              (set_by tagged.comes.of_run.0 (ComesToTag-tagged tagged) sets)) h.frames;
         });
     block_well = λ may h. record { kept = h.kept; frames = (may, h.frames) };
     block_fits = λ h. record { raw = h.raw; indented = h.indented };
@@ -270,38 +245,39 @@ module _ (p : Setting) (u : Tree) (blocks : List Frame) (vs : List Visit) where
       indented = h.indented;
     };
     element_part = λ {at = at} {s = s} {z = z} i h is is_behind. record {
-      stands = (h.stands.0, ap (λ (o : Option Tree). nth_in o i) h.stands.1 ∙ is);
+      stands = (
+        (h.stands.0, sym (ap (λ (o : Option Tree). nth_place o i) h.stands.1)),
+        ap (λ (o : Option Tree). nth_in o i) h.stands.1 ∙ is,
+      );
       raw = is_behind.escapes ∙ h.raw;
       indented = IsIndented-next at s.indent z.indent is_behind.indent h.indented;
       of_run = is_behind.of_run;
     };
-    body_part = λ {site = site} {e = e} {c = c} {t = t} i at call is fits h.
+    body_part = λ {site = site} {e = e} {c = c} {t = t} time at call is fits h.
         let there = element_at-read u site element_body e (Some t) at.stands is in record {
-          stands = (body_at-of_run site i t at.of_run (IsReached-visited at.reached) there, there);
+          stands = (is_body at.of_run.0 (IsReached-visited at.reached) there, there);
           raw = fits.raw;
-          indented = body_at-indents site i c fits.indented
-              (element_at-read u site element_call e (Some c) at.stands call);
+          indented = around_body fits.indented (element_at-read u site element_call e (Some c) at.stands call);
           of_run = h;
         };
     block_part = λ {site = site} {e = e} {t = t} {x = x} {before = before} {v = v} tagged alone is fits h.
         let there = element_at-read u site element_body e (Some x) tagged.comes.stands is in record {
-          stands = (body_at-of_run site 0 x tagged.comes.of_run (IsReached-visited tagged.comes.reached) there, there);
+          stands = (is_body tagged.comes.of_run.0 (IsReached-visited tagged.comes.reached) there, there);
           raw = fits.raw;
-          indented = block-indents site t before v fits.indented (ComesToTag-tagged tagged) alone;
+          indented = around_block fits.indented (ComesToTag-tagged tagged) alone;
           of_run = h;
         };
     inverse_part = λ {site = site} {e = e} {t = t} i at is fits h.
         let there = element_at-read u site element_inverse e (Some t) at.stands is in record {
-          stands = (inverse_at-of_run site i t at.of_run (IsReached-visited at.reached) there, there);
+          stands = (is_inverse at.of_run.0 (IsReached-visited at.reached) there, there);
           raw = fits.raw;
-          indented = inverse_at-indents site i fits.indented;
+          indented = around_inverse fits.indented;
           of_run = h;
         };
     local_part = λ {site = site} {t = t} {x = x} {before = before} {s = s} {v = v} tagged finds well is fits fit h.
         let there = ComesToTag-tagged tagged in record {
           stands = (
-            included_at-local site x t before v tagged.comes.of_run there finds
-                (partial_in-local p u blocks vs s.blocks well.frames v.name x is),
+            is_local_of tagged.comes.of_run.0 there finds (partial_in-local p u blocks vs s.blocks well.frames v.name x is),
             refl,
           );
           raw = fit.raw;
@@ -310,14 +286,14 @@ module _ (p : Setting) (u : Tree) (blocks : List Frame) (vs : List Visit) where
         };
     registered_part = λ {site = site} {t = t} {x = x} {before = before} {s = s} {v = v} tagged finds fits fit h.
         let there = ComesToTag-tagged tagged in record {
-          stands = (included_at-stored site x t before v tagged.comes.of_run there finds, refl);
+          stands = (is_stored tagged.comes.of_run.0 there finds, refl);
           raw = fit.raw;
           indented = included_at-indents site x t s.indent fits.indented there.stands;
           of_run = h;
         };
     own_block_part = λ {site = site} {e = e} {t = t} {x = x} {before = before} {s = s} {v = v} tagged finds is fits fit h.
         let there = element_at-read u site element_body e (Some x) tagged.comes.stands is in record {
-          stands = (body_at-of_run site 0 x tagged.comes.of_run (IsReached-visited tagged.comes.reached) there, there);
+          stands = (is_body tagged.comes.of_run.0 (IsReached-visited tagged.comes.reached) there, there);
           raw = fit.raw;
           indented = own_block-indents site x t before v s.indent fits.indented (ComesToTag-tagged tagged) finds;
           of_run = h;
@@ -387,4 +363,4 @@ comes_in_trees p t s ps o plain r =
 pub element_has_origins : (p : Setting) (e : Element) (s : State) (ps : List Piece) (o : Outcome) → IsPlain s
     → (r : Runs p (render_alone e) s ps o) → HaveOrigins p (alone e) (visits r) ps
 element_has_origins p e s ps o plain r =
-    (Do-obeys p (alone e) (One (element_in first_tree 0) None e) s ps o plain plain.escapes refl r (is_first, refl)).written
+    (Do-obeys p (alone e) (One (element_in first_tree 0 None) e) s ps o plain plain.escapes refl r ((is_first, refl), refl)).written

@@ -1,20 +1,20 @@
 -- States of a run: what is kept has origins, indentations are those of inclusions, and partials are those of the run.
-use Rattle.std.proofs.Common.{◌≡◌, ℕ, List, [], ◌∷◌, ◌++◌, append-nil, Bool, true, false, refl, sym, ap, ◌∙◌, subst, Option, Some, None, unwrap_or, option_and_then, cond, arith}
+use Rattle.std.proofs.Common.{◌≡◌, List, [], ◌∷◌, ◌++◌, append-nil, Bool, true, false, refl, sym, ap, ◌∙◌, subst, Option, Some, None, unwrap_or, option_and_then, cond, arith}
 use Rattle.std.specs.List.{AllByRecursion, Contains}
 use Rattle.std.specs.Str.{bytes_eq}
 use Rattle.std.proofs.lemmas.Slice.Eq.{bytes_eq-Decides}
 use Rattle.std.proofs.lemmas.List.Elements.{Contains-append_right}
 use Rattle.serde_json.specs.Data.{Data}
 use Rattle.handlebars_base.specs.Bytes.{Text}
-use Rattle.handlebars_template.specs.Tree.{Tree, Binding, Call, Decorator, decorator_marks}
+use Rattle.handlebars_template.specs.Tree.{Tree, Binding, Decorator, decorator_marks}
 use Rattle.handlebars_scope.specs.Resolve.{or_else}
 use Rattle.handlebars_scope.specs.Scopes.{Frame, empty_frame, Base, at_path, at_value, frame_at}
 use Rattle.handlebars_helpers.specs.CallView.{CallView}
 use Rattle.handlebars_helpers.specs.Turns.{Turn, turn_base, turn_frame, with_block}
 use Rattle.handlebars_meaning.specs.Inclusion.{is_own_block, newest, joined_indent}
 use Rattle.handlebars_meaning.specs.Laws.{IsPlain}
-use Rattle.handlebars_meaning.specs.Origins.{element_call, inclusion_tag, tree_site_of, element_at, IsTagged, Finds, IsBlockAlone, AreIndents, around_first, around_body, around_inverse, around_block, around_included, around_own_block, HaveOrigins, IsLocalOfRun, stood_in}
-use Rattle.handlebars_meaning.specs.Sites.{first_tree, body_at, inverse_at, included_at, Site, element_in}
+use Rattle.handlebars_meaning.specs.Origins.{inclusion_tag, tree_site_of, element_at, IsTagged, Finds, AreIndents, around_first, around_included, around_own_block, HaveOrigins, IsLocalOfRun, stood_in}
+use Rattle.handlebars_meaning.specs.Sites.{as_part, first_tree, body_at, included_at, Site}
 use Rattle.handlebars_meaning.specs.State.{KeptBlocks, Setting, State, outer_frames, nearest_as, partial_in, with_partial}
 use Rattle.handlebars_meaning.specs.Visits.{Visit}
 use Rattle.handlebars_laws.proofs.Closed.{MayKeep}
@@ -28,32 +28,19 @@ joined_indent-own (Some i) None = sym (append-nil i)
 joined_indent-own (Some i) (Some own) = refl
 
 module _ {p : Setting} {u : Tree} {vs : List Visit} where
-  pub body_at-indents : (site : Site) (j : ℕ) (c : Call) {t : Text} → AreIndents p u vs (tree_site_of site) t
-      → option_and_then element_call (element_at u site) ≡ Some c → AreIndents p u vs (body_at site j) t
-  body_at-indents (element_in at i) j c h is = around_body h is
-
-  pub block-indents : (site : Site) (tag : Decorator) (s : State) (v : CallView) {t : Text}
-      → AreIndents p u vs (tree_site_of site) t → IsTagged p u vs site inclusion_tag tag s v → IsBlockAlone p tag s v
-      → AreIndents p u vs (body_at site 0) t
-  block-indents (element_in at i) tag s v h is alone = around_block h is alone
-
-  pub inverse_at-indents : (site : Site) (j : ℕ) {t : Text} → AreIndents p u vs (tree_site_of site) t
-      → AreIndents p u vs (inverse_at site j) t
-  inverse_at-indents (element_in at i) j h = around_inverse h
-
   pub included_at-indents : (site : Site) (x : Tree) (tag : Decorator) (i : Option Text)
       → AreIndents p u vs (tree_site_of site) (unwrap_or i []) → option_and_then inclusion_tag (element_at u site) ≡ Some tag
       → AreIndents p u vs (included_at site x) (unwrap_or (joined_indent i (decorator_marks tag).indent) [])
-  included_at-indents (element_in at j) x tag i h is =
-      subst (AreIndents p u vs (included_at (element_in at j) x)) (sym (joined_indent-own i (decorator_marks tag).indent))
+  included_at-indents site x tag i h is =
+      subst (AreIndents p u vs (included_at site x)) (sym (joined_indent-own i (decorator_marks tag).indent))
       (around_included h is)
 
   pub own_block-indents : (site : Site) (x : Tree) (tag : Decorator) (s : State) (v : CallView) (i : Option Text)
       → AreIndents p u vs (tree_site_of site) (unwrap_or i []) → IsTagged p u vs site inclusion_tag tag s v
       → Finds p tag s v (is_own_block x)
-      → AreIndents p u vs (body_at site 0) (unwrap_or (joined_indent i (decorator_marks tag).indent) [])
-  own_block-indents (element_in at j) x tag s v i h is finds =
-      subst (AreIndents p u vs (body_at (element_in at j) 0)) (sym (joined_indent-own i (decorator_marks tag).indent))
+      → AreIndents p u vs (body_at site (as_part 0)) (unwrap_or (joined_indent i (decorator_marks tag).indent) [])
+  own_block-indents site x tag s v i h is finds =
+      subst (AreIndents p u vs (body_at site (as_part 0))) (sym (joined_indent-own i (decorator_marks tag).indent))
       (around_own_block h is finds)
 
   pub no_indent-indents : (i : Option Text) → i ≡ None → AreIndents p u vs first_tree (unwrap_or i [])

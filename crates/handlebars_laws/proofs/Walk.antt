@@ -24,10 +24,10 @@ use Rattle.handlebars_laws.proofs.Programs.{upto, any, Leads, ask-holds, return-
 module _ (p : Setting) (law : Law) (closed : Closed p law) where
   -- ---- decorators
 
-  module _ (site : Site) (place : Option Place) (e : Element) (t : Decorator) (before : State)
+  module _ (site : Site) (e : Element) (t : Decorator) (before : State)
       (comes : law.ComesTo site e before) (tag : decorator_tag e ≡ Some t) where
     abbrev this : Task
-    this = One site place e
+    this = One site e
 
     -- the deeds that its decorator answers for a view of the tag
     module _ (v : CallView) (viewed : IsAnswered p before (view_of (decorator_name t) (decorator_args t)) (gives v))
@@ -77,28 +77,28 @@ module _ (p : Setting) (law : Law) (closed : Closed p law) where
 
   -- ---- elements
 
-  render_element-holds : (site : Site) (place : Option Place) (e : Element) (s : State) → law.Begins (One site place e) s
-      → law.ComesTo site e s → Leads p law (One site place e) 0 any s (render_element site e)
-  render_element-holds site place (raw_string t) s begins comes =
-      write_text-holds p law closed (One site place (raw_string t)) s (of_text site) t (closed.text_written comes (closed.begins_fits begins refl))
-  render_element-holds site place (html_expression c) s begins comes =
-      without_escaping-holds p law closed (One site place (html_expression c)) s (render_expression site c)
-      (render_expression-holds p law closed site place (html_expression c) c refl (record s { escapes = false })
+  render_element-holds : (site : Site) (e : Element) (s : State) → law.Begins (One site e) s
+      → law.ComesTo site e s → Leads p law (One site e) 0 any s (render_element site e)
+  render_element-holds site (raw_string t) s begins comes =
+      write_text-holds p law closed (One site (raw_string t)) s (of_text site) t (closed.text_written comes (closed.begins_fits begins refl))
+  render_element-holds site (html_expression c) s begins comes =
+      without_escaping-holds p law closed (One site (html_expression c)) s (render_expression site c)
+      (render_expression-holds p law closed site (html_expression c) c refl (record s { escapes = false })
       (closed.raw_comes comes) (closed.begins_raw begins))
-  render_element-holds site place (expression c) s begins comes =
-      render_expression-holds p law closed site place (expression c) c refl s comes (closed.begins_fits begins refl)
-  render_element-holds site place (helper_block c) s begins comes =
-      render_call-holds p law closed site place (helper_block c) true c refl s comes refl (closed.begins_fits begins refl)
-  render_element-holds site place (decorator_expression t) s begins comes =
-      render_decorator-holds site place (decorator_expression t) t s comes refl
-  render_element-holds site place (decorator_block t) s begins comes =
-      render_decorator-holds site place (decorator_block t) t s comes refl
-  render_element-holds site place (partial_expression t) s begins comes =
-      render_partial-holds p law closed site place (partial_expression t) t refl s comes (closed.begins_fits begins refl)
-  render_element-holds site place (partial_block t) s begins comes =
-      render_partial-holds p law closed site place (partial_block t) t refl s comes (closed.begins_fits begins refl)
-  render_element-holds site place (comment t) s begins comes =
-      return-holds p law closed (One site place (comment t)) s
+  render_element-holds site (expression c) s begins comes =
+      render_expression-holds p law closed site (expression c) c refl s comes (closed.begins_fits begins refl)
+  render_element-holds site (helper_block c) s begins comes =
+      render_call-holds p law closed site (helper_block c) true c refl s comes refl (closed.begins_fits begins refl)
+  render_element-holds site (decorator_expression t) s begins comes =
+      render_decorator-holds site (decorator_expression t) t s comes refl
+  render_element-holds site (decorator_block t) s begins comes =
+      render_decorator-holds site (decorator_block t) t s comes refl
+  render_element-holds site (partial_expression t) s begins comes =
+      render_partial-holds p law closed site (partial_expression t) t refl s comes (closed.begins_fits begins refl)
+  render_element-holds site (partial_block t) s begins comes =
+      render_partial-holds p law closed site (partial_block t) t refl s comes (closed.begins_fits begins refl)
+  render_element-holds site (comment t) s begins comes =
+      return-holds p law closed (One site (comment t)) s
 
   -- ---- trees
 
@@ -123,8 +123,8 @@ module _ (p : Setting) (law : Law) (closed : Closed p law) where
 
   pub todo-holds : PlanHolds p law
   unfolding ◌>>=◌ ◌>>◌ AreFrom
-  todo-holds (One site place e) s begins known =
-      render_element-holds site place e s begins (closed.begins_comes begins known) (closed.begins_well begins)
+  todo-holds (One site e) s begins known =
+      render_element-holds site e s begins (closed.begins_comes begins known) (closed.begins_well begins)
       (λ n z. law.IsNext s z) 0 (omega arith) (λ u. Done) (λ j z to is. is)
   todo-holds (Whole at (tree n es places)) s begins known =
       let first = closed.name_next n (closed.begins_well begins) in

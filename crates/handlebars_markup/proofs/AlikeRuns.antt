@@ -33,7 +33,7 @@ module _ (p : Setting) where
   AreAlikeOutcomes o q = ⊥
 
   abbrev pub IsBlindTask : Task → Type 0
-  IsBlindTask (One site place e) = IsBlindElement (registrations p.parts) e
+  IsBlindTask (One site e) = IsBlindElement (registrations p.parts) e
   IsBlindTask (Whole at t) = IsBlindTree (registrations p.parts) t
 
 module _ (p : Setting) (w : HasTwin p) where

@@ -12,7 +12,7 @@ use Rattle.handlebars_helpers.specs.Turns.{Turn, turn_frame, with_block}
 use Rattle.handlebars_meaning.specs.CarryOut.{view_with_bodies, render_body, take_turns, render_with, render_word, carry_out}
 use Rattle.handlebars_meaning.specs.Means.{line_in, render_chosen, render_helped, render_call, render_hook, render_found, render_lone_as, render_lone, render_expression}
 use Rattle.handlebars_meaning.specs.Questions.{IsAnswered, HasChoice, value_of, view_of, helper_of, called_as, hook_for, choice_of, hook_or_refusal}
-use Rattle.handlebars_meaning.specs.Sites.{body_at, inverse_at, Site}
+use Rattle.handlebars_meaning.specs.Sites.{as_turn, as_part, body_at, inverse_at, Site}
 use Rattle.handlebars_meaning.specs.State.{Setting, State, push_frame, with_nearest, nearest_variables, helper_named}
 use Rattle.handlebars_meaning.specs.Steps.{◌>>=◌, ◌>>◌}
 use Rattle.handlebars_markup.specs.Blind.{calls_blind, IsWritten, AreBlindArgs, IsBlindBody}
@@ -46,7 +46,7 @@ module _ (p : Setting) (w : HasTwin p) (site : Site) (block : Bool) (c : Call)
   take_turns-alike s t v u i path (x ∷ xs) (y ∷ ys) h k next next' g =
       let first = turn_frame path (call_binding c) x in
       let second = turn_frame path (call_binding c) y in
-      render_branch-alike p w (with_nearest first s) (with_nearest second t) (body_at site i) (call_body c)
+      render_branch-alike p w (with_nearest first s) (with_nearest second t) (body_at site (as_turn i)) (call_body c)
       (with_nearest-alike (registrations p.parts) s t first second h
       (λ f f' e. turn_frame-alike path (call_binding c) x y f f' k.0 e)
       (turn_frame-blind (registrations p.parts) path (call_binding c) x)) blind_body
@@ -58,7 +58,7 @@ module _ (p : Setting) (w : HasTwin p) (site : Site) (block : Bool) (c : Call)
       → LeadAlike p w s (render_word site (seen v) is_block b) t (render_word site (seen u) is_block b)
   render_word-alike s t v u false b h next next' g = (record { marks = refl; fixed = refl }, g s t h)
   render_word-alike s t v u true true h next next' g =
-      render_branch-alike p w s t (body_at site 0) (call_body c) h blind_body next next' g
+      render_branch-alike p w s t (body_at site (as_part 0)) (call_body c) h blind_body next next' g
   render_word-alike s t v u true false h next next' g =
       render_branch-alike p w s t (inverse_at site 0) (call_inverse c) h blind_inverse next next' g
 
@@ -69,7 +69,7 @@ module _ (p : Setting) (w : HasTwin p) (site : Site) (block : Bool) (c : Call)
       let f = with_block base (call_binding c) (nearest_variables s.blocks) in
       let f' = with_block other (call_binding c) (nearest_variables t.blocks) in
       in_block-alike p w s t f f' (render_body site 0 (seen v)) (render_body site 0 (seen u))
-      (render_branch-alike p w (push_frame f s) (push_frame f' t) (body_at site 0) (call_body c)
+      (render_branch-alike p w (push_frame f s) (push_frame f' t) (body_at site (as_part 0)) (call_body c)
       (push_frame-alike (registrations p.parts) s t f f' h
       (with_block-alike base other (call_binding c) (nearest_variables s.blocks) (nearest_variables t.blocks) k
       (nearest_variables-alike s.blocks t.blocks h.blocks))
@@ -87,7 +87,7 @@ module _ (p : Setting) (w : HasTwin p) (site : Site) (block : Bool) (c : Call)
   carry_out-alike : (s t : State) (v u : CallView) (x y : Choice) → AreSides p w s t → AreAlikeChoices x y
       → LeadAlike p w s (carry_out site (seen v) x) t (carry_out site (seen u) y)
   carry_out-alike s t v u the_body the_body h k next next' g =
-      render_branch-alike p w s t (body_at site 0) (call_body c) h blind_body next next' g
+      render_branch-alike p w s t (body_at site (as_part 0)) (call_body c) h blind_body next next' g
   carry_out-alike s t v u the_inverse the_inverse h k next next' g =
       render_branch-alike p w s t (inverse_at site 0) (call_inverse c) h blind_inverse next next' g
   carry_out-alike s t v u (body_in_block base) (body_in_block other) h k next next' g =

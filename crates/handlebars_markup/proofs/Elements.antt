@@ -49,7 +49,7 @@ module _ (p : Setting) (w : HasTwin p) where
 
   todo-alike : (x : Task) (s t : State) → IsBlindTask p x → AreSides p w s t → DoAlike p w s (todo x) t (todo x)
   unfolding ◌>>=◌ ◌>>◌
-  todo-alike (One site place e) s t k h = render_element-alike s t site e h k (λ z. Done) (λ z. Done) (λ n n' a. a)
+  todo-alike (One site e) s t k h = render_element-alike s t site e h k (λ z. Done) (λ z. Done) (λ n n' a. a)
   todo-alike (Whole at (tree n es places)) s t k h =
       render_elements-alike (record s { current = n }) (record t { current = n }) at 0 es places
       (current-alike (registrations p.parts) s t n h) k (λ z. Done) (λ z. Done) (λ m m' a. a)

@@ -14,7 +14,7 @@ use Rattle.handlebars_meaning.specs.Inclusion.{Partial, is_local, is_registered,
 use Rattle.handlebars_meaning.specs.Means.{shown_tag, line_at, include_tag, render_partial}
 use Rattle.handlebars_meaning.specs.Pieces.{Piece}
 use Rattle.handlebars_meaning.specs.Questions.{IsAnswered, value_of, view_of}
-use Rattle.handlebars_meaning.specs.Sites.{TreeSite, body_at, included_at, Site}
+use Rattle.handlebars_meaning.specs.Sites.{as_part, TreeSite, body_at, included_at, Site}
 use Rattle.handlebars_meaning.specs.State.{Setting, State, push_frame, nearest_variables, partial_in}
 use Rattle.handlebars_meaning.specs.Steps.{Steps, Prog, return, ◌>>=◌, ◌>>◌}
 use Rattle.handlebars_laws.proofs.RunStates.{None≢Some}
@@ -172,7 +172,7 @@ module _ (p : Setting) (w : HasTwin p) where
         include_tree-alike s t v u (included_at site tr) tr (render_ahead site (decorator_body x)) h e k
         (render_ahead-alike site (decorator_body x) blind_body) next next' g
     include_partial-alike s t site v u (is_own_block tr) h e k next next' g =
-        include_tree-alike s t v u (body_at site 0) tr (return None) h e k none-alike next next' g
+        include_tree-alike s t v u (body_at site (as_part 0)) tr (return None) h e k none-alike next next' g
     include_partial-alike s t site v u is_nowhere h e k next next' g =
         ap (λ (n : Text). plain_refusal (partial_not_found n)) e.views.name
 

@@ -1,5 +1,5 @@
 -- The marks of texts, and what of what is put is the template's own.
-use Rattle.std.proofs.Common.{◌≡◌, ℕ, Bool, true, false, List, [], ◌∷◌, ◌++◌, Option, unwrap_or, if◌then◌else◌, refl, sym, ap, ap₂, ◌∙◌, append_assoc, append-nil}
+use Rattle.std.proofs.Common.{◌≡◌, ℕ, Bool, true, false, List, [], ◌∷◌, ◌++◌, Option, None, Some, unwrap_or, if◌then◌else◌, refl, sym, ap, ap₂, ◌∙◌, append_assoc, append-nil}
 use Rattle.std.proofs.lemmas.Bool.{ne_eqb}
 use Rattle.std.proofs.lemmas.List.Elements.{filter-append}
 use Rattle.handlebars_base.specs.Bytes.{Text}
@@ -103,6 +103,10 @@ fixed_texts-indent : (o : Origin) (t : Text) → fixed_texts (pieces_of (of_inde
 fixed_texts-indent o [] = refl
 fixed_texts-indent o (b ∷ t) = refl
 
+fixed_texts-of : (o : Origin) (t : Text) → fixed_texts (pieces_of o t) ≡ fixed_text o t
+fixed_texts-of o [] = sym (fixed_text-nil o)
+fixed_texts-of o (b ∷ t) = append-nil (fixed_text o (b ∷ t))
+
 fixed_texts-between : (o : Origin) (ps : List Piece) (ls : List Text) → fixed_texts ps ≡ []
     → fixed_texts (pieces_between o ps ls) ≡ fixed_text o (between [] ls)
 fixed_texts-between o ps [] none = sym (fixed_text-nil o)
@@ -118,9 +122,10 @@ fixed_texts-before false ps none = refl
 
 fixed_texts-put : (o : Origin) (indent : Option Text) (t : Text) (line : LineState)
     → fixed_texts (put o indent t line).0 ≡ fixed_text o t
-fixed_texts-put o indent t line =
+fixed_texts-put o None t line = fixed_texts-of o t
+fixed_texts-put o (Some indent) t line =
     let ps = indent_pieces o indent in
-    let none = fixed_texts-indent o (unwrap_or indent []) in
+    let none = fixed_texts-indent o indent in
     fixed_texts-append (pieces_before o indent t line) (pieces_between o ps (lines_of t))
     ∙ ap₂ (λ (x y : Text). x ++ y) (fixed_texts-before (takes_indent line t) ps none)
     (fixed_texts-between o ps (lines_of t) none ∙ ap (fixed_text o) (indented-none t))

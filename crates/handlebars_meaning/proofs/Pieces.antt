@@ -1,8 +1,9 @@
 -- What pieces join to.
-use Rattle.std.proofs.Common.{◌≡◌, ℕ, Bool, true, false, List, [], ◌∷◌, ◌++◌, Option, unwrap_or, refl, sym, ap, ◌∙◌, append-nil, ◌⊎◌, inl, inr, if◌then◌else◌}
+use Rattle.std.proofs.Common.{◌≡◌, ℕ, Bool, true, false, List, [], ◌∷◌, ◌++◌, Option, None, Some, unwrap_or, refl, sym, ap, ◌∙◌, append-nil, ◌⊎◌, inl, inr, if◌then◌else◌}
 use Rattle.handlebars_base.specs.Bytes.{Text}
 use Rattle.handlebars_scope.specs.Indentation.{lines_of, between, takes_indent, written_in}
 use Rattle.handlebars_scope.specs.LineState.{LineState}
+use Rattle.handlebars_scope.proofs.Indents.{written_in-none}
 use Rattle.handlebars_meaning.specs.Pieces.{Origin, of_indent, site_of, Piece, join, pieces_of, indent_pieces, pieces_between, pieces_before, put}
 use Rattle.handlebars_meaning.specs.Runs.{Front, none, cut_off, more}
 use Rattle.handlebars_meaning.proofs.Runs.{join-append}
@@ -27,14 +28,13 @@ join-before false ps indent is = refl
 -- What is put of a text is what is written of it.
 pub join-put : (o : Origin) (indent : Option Text) (t : Text) (line : LineState)
     → join (put o indent t line).0 ≡ written_in (unwrap_or indent []) line t
-join-put o indent t line =
+join-put o None t line = join-pieces_of o t ∙ sym (written_in-none [] line t refl)
+join-put o (Some indent) t line =
     let ps = indent_pieces o indent in
-    let is = join-pieces_of (of_indent (site_of o)) (unwrap_or indent []) in
+    let is = join-pieces_of (of_indent (site_of o)) indent in
     join-append (pieces_before o indent t line) (pieces_between o ps (lines_of t))
-    ∙ ap (λ zs. zs ++ join (pieces_between o ps (lines_of t)))
-    (join-before (takes_indent line t) ps (unwrap_or indent []) is)
-    ∙ ap (λ zs. (if takes_indent line t then unwrap_or indent [] else []) ++ zs)
-    (join-between o ps (unwrap_or indent []) is (lines_of t))
+    ∙ ap (λ zs. zs ++ join (pieces_between o ps (lines_of t))) (join-before (takes_indent line t) ps indent is)
+    ∙ ap (λ zs. (if takes_indent line t then indent else []) ++ zs) (join-between o ps indent is (lines_of t))
 
 -- ---- a beginning of a text, as pieces
 

@@ -8,7 +8,7 @@ use Rattle.handlebars_helpers.specs.CallView.{CallView, HelperView}
 use Rattle.handlebars_helpers.specs.Choice.{Choice, the_body, the_inverse, body_in_block, body_in_turns, the_value, the_word, the_line, the_steps, nothing}
 use Rattle.handlebars_helpers.specs.Own.{Step, writes, renders_body, renders_inverse, renders_body_in}
 use Rattle.handlebars_helpers.specs.Turns.{Turn, turn_frame, with_block}
-use Rattle.handlebars_meaning.specs.Sites.{TreeSite, body_at, inverse_at, Site}
+use Rattle.handlebars_meaning.specs.Sites.{as_turn, as_part, TreeSite, body_at, inverse_at, Site}
 use Rattle.handlebars_meaning.specs.State.{State, push_frame, pop_frame, with_nearest, nearest_variables}
 use Rattle.handlebars_meaning.specs.Steps.{Prog, Whole, return, ◌>>=◌, ◌>>◌, state, become, perform}
 use Rattle.handlebars_meaning.specs.Writing.{write_value, write_step, write_word}
@@ -46,11 +46,12 @@ render_branch at (body t) = perform (Whole at t)
 
 -- the body, as the part of this number that is rendered for the block
 abbrev pub render_body : Site → ℕ → HelperView → Prog (Unit {0})
-render_body site i h = render_branch (body_at site i) h.body
+render_body site i h = render_branch (body_at site (as_part i)) h.body
 
 -- The nearest block is set up for a turn, and the body is rendered in it.
 abbrev pub take_turn : Site → ℕ → HelperView → Option (List Text) → Turn → Prog (Unit {0})
-take_turn site i h path t = change (with_nearest (turn_frame path h.binding t)) >> render_body site i h
+take_turn site i h path t =
+    change (with_nearest (turn_frame path h.binding t)) >> render_branch (body_at site (as_turn i)) h.body
 
 -- the turns in order, from a number on
 abbrev pub take_turns : Site → ℕ → HelperView → Option (List Text) → List Turn → Prog (Unit {0})

@@ -13,7 +13,7 @@ use Rattle.handlebars_meaning.specs.CarryOut.{change}
 use Rattle.handlebars_meaning.specs.Inclusion.{Partial, is_local, is_registered, is_own_block, is_nowhere, is_current, newest, pair_values, inclusion_block, begin_inclusion, named_as_before, end_inclusion}
 use Rattle.handlebars_meaning.specs.Pieces.{Piece}
 use Rattle.handlebars_meaning.specs.Questions.{value_of}
-use Rattle.handlebars_meaning.specs.Sites.{TreeSite, body_at, included_at, Site}
+use Rattle.handlebars_meaning.specs.Sites.{as_part, TreeSite, body_at, included_at, Site}
 use Rattle.handlebars_meaning.specs.State.{State, nearest_variables, push_frame}
 use Rattle.handlebars_meaning.specs.Steps.{Whole, Prog, return, ◌>>=◌, ◌>>◌, refuse_for, ask, write, state, become, perform, capture, find, check_limit}
 
@@ -23,7 +23,7 @@ use Rattle.handlebars_meaning.specs.Steps.{Whole, Prog, return, ◌>>=◌, ◌>>
 abbrev pub render_own_block : Site → Body → State → Prog (Unit {0})
 render_own_block site no_body s = refuse_for partial_block_not_found
 render_own_block site (body t) s = do
-  perform (Whole (body_at site 0) t)
+  perform (Whole (body_at site (as_part 0)) t)
   change (named_as_before s)
 
 -- The newest text that is kept is written as it is, whatever the line. This is no inclusion.
@@ -61,7 +61,7 @@ enter_block v = do
 abbrev pub render_ahead : Site → Body → Prog (Option (List Piece))
 render_ahead site no_body = return None
 render_ahead site (body t) = do
-  ps ← capture (perform (Whole (body_at site 0) t))
+  ps ← capture (perform (Whole (body_at site (as_part 0)) t))
   return (Some ps)
 
 -- A tree is included, where the limit allows it: in a block of its own, with what is kept for it, and under the view's
@@ -83,7 +83,7 @@ include_found site v t = include_tree v (included_at site t) t (render_ahead sit
 abbrev pub include_partial : Site → DecoratorView → Partial → Prog (Unit {0})
 include_partial site v (is_local t) = include_found site v t
 include_partial site v (is_registered t) = include_found site v t
-include_partial site v (is_own_block t) = include_tree v (body_at site 0) t (return None)
+include_partial site v (is_own_block t) = include_tree v (body_at site (as_part 0)) t (return None)
 include_partial site v is_nowhere = refuse_for (partial_not_found v.call.name)
 
 -- The name of the kept text comes before any partial.

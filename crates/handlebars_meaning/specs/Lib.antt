@@ -14,6 +14,7 @@ pub mod Means
 pub mod Evaluation
 pub mod Runs
 pub mod Visits
+pub mod Told
 pub mod Names
 pub mod Origins
 pub mod Laws

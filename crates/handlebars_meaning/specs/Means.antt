@@ -182,7 +182,7 @@ render_element site (comment t) = return tt
 abbrev pub render_elements : TreeSite → ℕ → Elements → List Place → Prog (Unit {0})
 render_elements at i no_elements places = return tt
 render_elements at i (element e es) places =
-    perform (One (element_in at i) (slice_get places i) e) >> render_elements at (i + 1) es places
+    perform (One (element_in at i (slice_get places i)) e) >> render_elements at (i + 1) es places
 
 -- A tree makes its own name the current one, and then does its elements.
 abbrev pub render_whole : TreeSite → Tree → Prog (Unit {0})
@@ -195,7 +195,7 @@ render_whole at (tree n es places) = do
 
 -- what a part of a run does
 abbrev pub plan : Task → Prog (Unit {0})
-plan (One site place e) = render_element site e
+plan (One site e) = render_element site e
 plan (Whole at t) = render_whole at t
 
 abbrev pub todo : Task → Steps
@@ -207,4 +207,4 @@ render_tree t = Do (Whole first_tree t) Done
 
 -- a run of an element alone, as if it were the one element of a tree
 abbrev pub render_alone : Element → Steps
-render_alone e = Do (One (element_in first_tree 0) None e) Done
+render_alone e = Do (One (element_in first_tree 0 None) e) Done

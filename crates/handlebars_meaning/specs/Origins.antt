@@ -8,7 +8,8 @@ use Rattle.handlebars_base.specs.Bytes.{Text}
 use Rattle.handlebars_base.specs.Optional.{◌>>=◌, with_or}
 use Rattle.handlebars_base.specs.Scoped.{Found, value, missing, present_in}
 use Rattle.handlebars_base.specs.Values.{word}
-use Rattle.handlebars_template.specs.Tree.{Tree, tree_elements, Elements, no_elements, element, Element, raw_string, html_expression, expression, helper_block, decorator_expression, decorator_block, partial_expression, partial_block, Call, call_name, call_args, call_body, call_inverse, is_value, Decorator, decorator_name, decorator_args, decorator_body, decorator_marks, Body, no_body, body}
+use Rattle.handlebars_template.specs.Place.{Place}
+use Rattle.handlebars_template.specs.Tree.{Tree, tree, tree_elements, Elements, no_elements, element, Element, raw_string, html_expression, expression, helper_block, decorator_expression, decorator_block, partial_expression, partial_block, Call, call_name, call_args, call_body, call_inverse, is_value, Decorator, decorator_name, decorator_args, decorator_body, decorator_marks, Body, no_body, body}
 use Rattle.handlebars_base.specs.Outputs.{IsPrefix}
 use Rattle.handlebars_helpers.specs.CallView.{CallView}
 use Rattle.handlebars_helpers.specs.Callee.{Target}
@@ -22,7 +23,7 @@ use Rattle.handlebars_meaning.specs.Including.{partial_block_name}
 use Rattle.handlebars_meaning.specs.Means.{shown_tag}
 use Rattle.handlebars_meaning.specs.Pieces.{Origin, of_text, of_value, of_raw, of_word, of_step, of_indent, Piece}
 use Rattle.handlebars_meaning.specs.Questions.{value_of, view_of, helper_of, called_as, hook_for, choice_of, escape_of, decorator_of, deeds_of, IsAnswered}
-use Rattle.handlebars_meaning.specs.Sites.{TreeSite, first_tree, body_at, inverse_at, included_at, Site, element_in}
+use Rattle.handlebars_meaning.specs.Sites.{as_part, Time, TreeSite, first_tree, body_at, inverse_at, included_at, Site, element_in, site_place}
 use Rattle.handlebars_meaning.specs.State.{Setting, State}
 use Rattle.handlebars_meaning.specs.Visits.{Visit}
 use Rattle.handlebars_meaning.specs.Writing.{rendered_if_any}
@@ -78,18 +79,29 @@ element_inverse e = element_call e >>= (λ c. body_tree (call_inverse c))
 
 -- the site of the tree in which an element stands
 abbrev pub tree_site_of : Site → TreeSite
-tree_site_of (element_in at i) = at
+tree_site_of (element_in at i place) = at
 
 -- the tree and the element at their sites, in a run that begins with the tree u
 abbrev mutual
   pub tree_at : Tree → TreeSite → Option Tree
   tree_at u first_tree = Some u
-  tree_at u (body_at site i) = element_at u site >>= element_body
+  tree_at u (body_at site time) = element_at u site >>= element_body
   tree_at u (inverse_at site i) = element_at u site >>= element_inverse
   tree_at u (included_at site t) = Some t
 
   pub element_at : Tree → Site → Option Element
-  element_at u (element_in at i) = nth_in (tree_at u at) i
+  element_at u (element_in at i place) = nth_in (tree_at u at) i
+
+-- the place of an element in its source, as its tree has it
+abbrev pub tree_places : Tree → List Place
+tree_places (tree n es places) = places
+
+abbrev pub nth_place : Option Tree → ℕ → Option Place
+nth_place None i = None
+nth_place (Some t) i = slice_get (tree_places t) i
+
+abbrev pub place_in : Tree → Site → Option Place
+place_in u (element_in at i place) = nth_place (tree_at u at) i
 
 -- the call of an element, which may write a value, escaped or raw, or a word; and whether the element is a block
 abbrev pub shown_call : Element → Option (Bool × Call)
@@ -99,12 +111,12 @@ shown_call e = option_map (λ c. (is_block e, c)) (element_call e)
 abbrev mutual
   pub is_raw_tree : Tree → TreeSite → Bool
   is_raw_tree u first_tree = false
-  is_raw_tree u (body_at site i) = is_raw_site u site
+  is_raw_tree u (body_at site time) = is_raw_site u site
   is_raw_tree u (inverse_at site i) = is_raw_site u site
   is_raw_tree u (included_at site t) = is_raw_site u site
 
   pub is_raw_site : Tree → Site → Bool
-  is_raw_site u (element_in at i) = with_or (nth_in (tree_at u at) i) is_html false || is_raw_tree u at
+  is_raw_site u (element_in at i place) = with_or (nth_in (tree_at u at) i) is_html false || is_raw_tree u at
 
 -- ---- origins
 
@@ -248,19 +260,18 @@ pub data IsBlockAlone (p : Setting) (tag : Decorator) (s : State) (v : CallView)
 -- alone. A tree that an inclusion includes has that one's too: what its name finds, be it the tag's own block.
 pub data AreIndents (p : Setting) (u : Tree) (vs : List Visit) : TreeSite → Text → Type 0 where
   around_first : AreIndents p u vs first_tree []
-  around_body : {at : TreeSite} {i j : ℕ} {c : Call} {t : Text} → AreIndents p u vs at t
-      → (element_at u (element_in at i) >>= element_call) ≡ Some c → AreIndents p u vs (body_at (element_in at i) j) t
-  around_inverse : {at : TreeSite} {i j : ℕ} {t : Text} → AreIndents p u vs at t
-      → AreIndents p u vs (inverse_at (element_in at i) j) t
-  around_block : {at : TreeSite} {i : ℕ} {tag : Decorator} {s : State} {v : CallView} {t : Text} → AreIndents p u vs at t
-      → IsTagged p u vs (element_in at i) inclusion_tag tag s v → IsBlockAlone p tag s v
-      → AreIndents p u vs (body_at (element_in at i) 0) t
-  around_included : {at : TreeSite} {i : ℕ} {x : Tree} {tag : Decorator} {t : Text} → AreIndents p u vs at t
-      → (element_at u (element_in at i) >>= inclusion_tag) ≡ Some tag
-      → AreIndents p u vs (included_at (element_in at i) x) (t ++ own_indent tag)
-  around_own_block : {at : TreeSite} {i : ℕ} {x : Tree} {tag : Decorator} {s : State} {v : CallView} {t : Text}
-      → AreIndents p u vs at t → IsTagged p u vs (element_in at i) inclusion_tag tag s v
-      → Finds p tag s v (is_own_block x) → AreIndents p u vs (body_at (element_in at i) 0) (t ++ own_indent tag)
+  around_body : {site : Site} {time : Time} {c : Call} {t : Text} → AreIndents p u vs (tree_site_of site) t
+      → (element_at u site >>= element_call) ≡ Some c → AreIndents p u vs (body_at site time) t
+  around_inverse : {site : Site} {j : ℕ} {t : Text} → AreIndents p u vs (tree_site_of site) t
+      → AreIndents p u vs (inverse_at site j) t
+  around_block : {site : Site} {tag : Decorator} {s : State} {v : CallView} {t : Text}
+      → AreIndents p u vs (tree_site_of site) t → IsTagged p u vs site inclusion_tag tag s v → IsBlockAlone p tag s v
+      → AreIndents p u vs (body_at site (as_part 0)) t
+  around_included : {site : Site} {x : Tree} {tag : Decorator} {t : Text} → AreIndents p u vs (tree_site_of site) t
+      → (element_at u site >>= inclusion_tag) ≡ Some tag → AreIndents p u vs (included_at site x) (t ++ own_indent tag)
+  around_own_block : {site : Site} {x : Tree} {tag : Decorator} {s : State} {v : CallView} {t : Text}
+      → AreIndents p u vs (tree_site_of site) t → IsTagged p u vs site inclusion_tag tag s v
+      → Finds p tag s v (is_own_block x) → AreIndents p u vs (body_at site (as_part 0)) (t ++ own_indent tag)
 
 -- the indentations around the element at the site, to which the run comes and which writes them, or a beginning of them,
 -- where the run stopped within
@@ -317,32 +328,31 @@ mutual
   -- comes: a local partial of the run, or a registered tree.
   pub data IsTreeOfRun (p : Setting) (u : Tree) (blocks : List Frame) (vs : List Visit) : TreeSite → Type 0 where
     is_first : IsTreeOfRun p u blocks vs first_tree
-    is_body : {at : TreeSite} {i j : ℕ} {t : Tree} → IsTreeOfRun p u blocks vs at → IsVisited vs (element_in at i)
-        → (element_at u (element_in at i) >>= element_body) ≡ Some t → IsTreeOfRun p u blocks vs (body_at (element_in at i) j)
-    is_inverse : {at : TreeSite} {i j : ℕ} {t : Tree} → IsTreeOfRun p u blocks vs at → IsVisited vs (element_in at i)
-        → (element_at u (element_in at i) >>= element_inverse) ≡ Some t
-        → IsTreeOfRun p u blocks vs (inverse_at (element_in at i) j)
-    is_local_of : {at : TreeSite} {i : ℕ} {t : Tree} {tag : Decorator} {s : State} {v : CallView}
-        → IsTreeOfRun p u blocks vs at → IsTagged p u vs (element_in at i) inclusion_tag tag s v
+    is_body : {site : Site} {time : Time} {t : Tree} → IsTreeOfRun p u blocks vs (tree_site_of site) → IsVisited vs site
+        → (element_at u site >>= element_body) ≡ Some t → IsTreeOfRun p u blocks vs (body_at site time)
+    is_inverse : {site : Site} {j : ℕ} {t : Tree} → IsTreeOfRun p u blocks vs (tree_site_of site) → IsVisited vs site
+        → (element_at u site >>= element_inverse) ≡ Some t → IsTreeOfRun p u blocks vs (inverse_at site j)
+    is_local_of : {site : Site} {t : Tree} {tag : Decorator} {s : State} {v : CallView}
+        → IsTreeOfRun p u blocks vs (tree_site_of site) → IsTagged p u vs site inclusion_tag tag s v
         → Finds p tag s v (is_local t) → IsLocalOfRun p u blocks vs v.name t
-        → IsTreeOfRun p u blocks vs (included_at (element_in at i) t)
-    is_stored : {at : TreeSite} {i : ℕ} {t : Tree} {tag : Decorator} {s : State} {v : CallView}
-        → IsTreeOfRun p u blocks vs at → IsTagged p u vs (element_in at i) inclusion_tag tag s v
-        → Finds p tag s v (is_registered t) → IsTreeOfRun p u blocks vs (included_at (element_in at i) t)
+        → IsTreeOfRun p u blocks vs (included_at site t)
+    is_stored : {site : Site} {t : Tree} {tag : Decorator} {s : State} {v : CallView}
+        → IsTreeOfRun p u blocks vs (tree_site_of site) → IsTagged p u vs site inclusion_tag tag s v
+        → Finds p tag s v (is_registered t) → IsTreeOfRun p u blocks vs (included_at site t)
 
   -- A local partial of a run, by its name: one that the decorator of a tag in a tree of the run sets, to which the run comes;
   -- or one that stood in a block before, with which the run began or which a helper of one's own handed over.
   pub data IsLocalOfRun (p : Setting) (u : Tree) (blocks : List Frame) (vs : List Visit) : Text → Tree → Type 0 where
-    set_by : {at : TreeSite} {i : ℕ} {n : Text} {t : Tree} {tag : Decorator} {s : State} {v : CallView}
-        → IsTreeOfRun p u blocks vs at → IsTagged p u vs (element_in at i) decorator_tag tag s v
+    set_by : {site : Site} {n : Text} {t : Tree} {tag : Decorator} {s : State} {v : CallView}
+        → IsTreeOfRun p u blocks vs (tree_site_of site) → IsTagged p u vs site decorator_tag tag s v
         → SetsPartial p tag s v n t → IsLocalOfRun p u blocks vs n t
     stood_in : {n : Text} {t : Tree} (f : Frame) → Contains blocks f → f.partial n ≡ Some t → IsLocalOfRun p u blocks vs n t
     handed_over : {n : Text} {t : Tree} (f : Frame) → IsHandedOver p u vs f → f.partial n ≡ Some t
         → IsLocalOfRun p u blocks vs n t
 
--- a site in a tree of a run
+-- a site in a tree of a run, with the place that the tree has there
 abbrev pub IsSiteOfRun : Setting → Tree → List Frame → List Visit → Site → Type 0
-IsSiteOfRun p u blocks vs (element_in at i) = IsTreeOfRun p u blocks vs at
+IsSiteOfRun p u blocks vs site = IsTreeOfRun p u blocks vs (tree_site_of site) × (site_place site ≡ place_in u site)
 
 -- All that is visited stands in trees of the run.
 abbrev pub StandInTrees : Setting → Tree → List Frame → List Visit → List Visit → Type 0

@@ -1,5 +1,5 @@
 -- The pieces that a run writes, each with where it comes from.
-use Rattle.std.specs.Prelude.{ℕ, List, [], ◌∷◌, ◌++◌, Bool, if◌then◌else◌, Option, unwrap_or}
+use Rattle.std.specs.Prelude.{ℕ, List, [], ◌∷◌, ◌++◌, Bool, if◌then◌else◌, Option, None, Some}
 use Rattle.handlebars_base.specs.Bytes.{Text}
 use Rattle.handlebars_base.specs.Scoped.{Found}
 use Rattle.handlebars_scope.specs.Indentation.{lines_of, takes_indent}
@@ -42,9 +42,9 @@ pieces_of o (b ∷ t) = record { origin = o; text = b ∷ t } ∷ []
 
 -- ---- putting a text
 
--- The indentation in force, as a piece of what an element writes; without one there is none.
-abbrev pub indent_pieces : Origin → Option Text → List Piece
-indent_pieces o indent = pieces_of (of_indent (site_of o)) (unwrap_or indent [])
+-- an indentation, as a piece of what an element writes
+abbrev pub indent_pieces : Origin → Text → List Piece
+indent_pieces o indent = pieces_of (of_indent (site_of o)) indent
 
 -- the lines of a text, each a piece, with the indentation between them
 abbrev pub pieces_between : Origin → List Piece → List Text → List Piece
@@ -53,12 +53,17 @@ pieces_between o indent (l ∷ []) = record { origin = o; text = l } ∷ []
 pieces_between o indent (l ∷ m ∷ ls) = record { origin = o; text = l } ∷ (indent ++ pieces_between o indent (m ∷ ls))
 
 -- what goes before the first of them, where the line is so
-abbrev pub pieces_before : Origin → Option Text → Text → LineState → List Piece
+abbrev pub pieces_before : Origin → Text → Text → LineState → List Piece
 pieces_before o indent t line = if takes_indent line t then indent_pieces o indent else []
 
--- A text is put, with an indentation in force or without one: the indentation goes before it, where indentation is to come
--- and the text doesn't begin with the end of a line, and behind each newline in it that isn't its last byte. The line is
--- then the one behind the text. An empty text does nothing.
+-- The pieces of a text, with an indentation in force or without one: the indentation goes before it, where indentation is to
+-- come and the text doesn't begin with the end of a line, and behind each newline in it that isn't its last byte. Without one
+-- the text is one piece.
+abbrev pub pieces_put : Origin → Option Text → Text → LineState → List Piece
+pieces_put o None t line = pieces_of o t
+pieces_put o (Some indent) t line =
+    pieces_before o indent t line ++ pieces_between o (indent_pieces o indent) (lines_of t)
+
+-- A text is put, and the line is then the one behind it. An empty text does nothing.
 abbrev pub put : Origin → Option Text → Text → LineState → List Piece × LineState
-put o indent t line =
-    (pieces_before o indent t line ++ pieces_between o (indent_pieces o indent) (lines_of t), line_behind t line)
+put o indent t line = (pieces_put o indent t line, line_behind t line)

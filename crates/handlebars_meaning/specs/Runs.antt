@@ -10,6 +10,7 @@ use Rattle.handlebars_base.specs.Outputs.{IsPrefix}
 use Rattle.handlebars_meaning.specs.Inclusion.{Partial, partial_for}
 use Rattle.handlebars_meaning.specs.Pieces.{Piece}
 use Rattle.handlebars_meaning.specs.Questions.{Question, Reply, IsAnswered}
+use Rattle.handlebars_meaning.specs.Sites.{site_place}
 use Rattle.handlebars_meaning.specs.State.{Setting, State}
 use Rattle.handlebars_meaning.specs.Steps.{Task, One, Whole, Steps, Done, Refuse, Write, Get, Set, Ask, Do, Capture, Find, CheckLimit}
 use Rattle.handlebars_meaning.specs.Means.{todo, render_tree}
@@ -66,7 +67,7 @@ named_as None spot = spot
 named_as (Some n) spot = name_if_none n spot
 
 abbrev pub mark_spot : Task → Spot → Spot
-mark_spot (One site place e) spot = placed_at place spot
+mark_spot (One site e) spot = placed_at (site_place site) spot
 mark_spot (Whole at t) spot = named_as (tree_name t) spot
 
 abbrev pub mark_outcome : Task → Outcome → Outcome

@@ -1,9 +1,8 @@
 -- A small language of steps, in which the meaning of a template is written.
-use Rattle.std.specs.Prelude.{Bool, List, Option}
+use Rattle.std.specs.Prelude.{Bool, List}
 use Rattle.handlebars_base.specs.Reasons.{Reason, Refusal}
 use Rattle.handlebars_base.specs.RenderRefusals.{plain_refusal}
 use Rattle.handlebars_base.specs.Answers.{Answer, gives, refuses}
-use Rattle.handlebars_template.specs.Place.{Place}
 use Rattle.handlebars_base.specs.Bytes.{Text}
 use Rattle.handlebars_template.specs.Tree.{Tree, Element, Body}
 use Rattle.handlebars_meaning.specs.Inclusion.{Partial}
@@ -12,9 +11,9 @@ use Rattle.handlebars_meaning.specs.Questions.{Question, Reply}
 use Rattle.handlebars_meaning.specs.Sites.{TreeSite, Site}
 use Rattle.handlebars_meaning.specs.State.{State}
 
--- a part of a run: an element at its site and its place, where it has one, or a whole tree at its site
+-- a part of a run: an element at its site, or a whole tree at its site
 pub data Task : Type 0 where
-  One : Site → Option Place → Element → Task
+  One : Site → Element → Task
   Whole : TreeSite → Tree → Task
 
 -- Steps to be carried out one after the other. A write is one of a boolean helper's word, or not. What steps that are

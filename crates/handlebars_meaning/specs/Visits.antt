@@ -13,7 +13,7 @@ pub record Visit : Type 0 where
 
 -- a part is begun in a state: an element is come to
 abbrev pub arrival : Task → State → List Visit
-arrival (One site place e) s = record { site = site; state = s } ∷ []
+arrival (One site e) s = record { site = site; state = s } ∷ []
 arrival (Whole at t) s = []
 
 -- The visits of a run, in order. One that is over before its end has none behind that.

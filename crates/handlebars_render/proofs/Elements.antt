@@ -20,7 +20,7 @@ abbrev pub from_index : TreeSite → List Element → List Place → ℕ → Ste
 from_index site es places i = run (render_elements site i (elements_of (drop i es)) places)
 
 pub at_index : (site : TreeSite) (es : List Element) (places : List Place) (i : ℕ) (d : Element) → i < length es
-    → from_index site es places i ≡ Do (One (element_in site i) (slice_get places i) (get_or es i d)) (from_index site es places (i + 1))
+    → from_index site es places i ≡ Do (One (element_in site i (slice_get places i)) (get_or es i d)) (from_index site es places (i + 1))
 unfolding ◌>>◌
 at_index site es places i d lt =
     ap (λ (z : List Element). run (render_elements site i (elements_of z) places)) (drop_more es i d lt)
@@ -39,21 +39,21 @@ module _ (p : Setting) (may : Error → Type 0) where
 
   pub left_goes : (site : TreeSite) (es : List Element) (places : List Place) (i : ℕ) (d x : Element) (first now next : Moment) {u : Unit {0}}
       → i < length es → get_or es i d ≡ x → Left site es places i first now
-      → CarriesOut p (todo (One (element_in site i) (slice_get places i) x)) may now (Ok u) next
+      → CarriesOut p (todo (One (element_in site i (slice_get places i)) x)) may now (Ok u) next
       → Left site es places (i + 1) first next
   left_goes site es places i d x first now next lt is left a = λ r last c. left r last
       (subst (λ (k : Steps). CarriesOut p k may now r last) (sym (at_index site es places i d lt))
-      (subst (λ (z : Element). CarriesOut p (Do (One (element_in site i) (slice_get places i) z) (from_index site es places (i + 1))) may now r last)
+      (subst (λ (z : Element). CarriesOut p (Do (One (element_in site i (slice_get places i)) z) (from_index site es places (i + 1))) may now r last)
       (sym is) (carries-then p may a c)))
 
   pub left_over : (site : TreeSite) (es : List Element) (places : List Place) (i : ℕ) (d x : Element) (first now next : Moment) (e f : RenderError)
       → i < length es → get_or es i d ≡ x → Left site es places i first now
-      → IsMarked (One (element_in site i) (slice_get places i) x) e f
-      → CarriesOut p (todo (One (element_in site i) (slice_get places i) x)) may now (Err e) next
+      → IsMarked (One (element_in site i (slice_get places i)) x) e f
+      → CarriesOut p (todo (One (element_in site i (slice_get places i)) x)) may now (Err e) next
       → CarriesOut p (from_index site es places 0) may first (Err f) next
   left_over site es places i d x first now next e f lt is left m a = left (Err f) next
       (subst (λ (k : Steps). CarriesOut p k may now (Err f) next) (sym (at_index site es places i d lt))
-      (subst (λ (z : Element). CarriesOut p (Do (One (element_in site i) (slice_get places i) z) (from_index site es places (i + 1))) may now (Err f) next)
+      (subst (λ (z : Element). CarriesOut p (Do (One (element_in site i (slice_get places i)) z) (from_index site es places (i + 1))) may now (Err f) next)
       (sym is) (carries-over p may e f m a)))
 
   pub left_ends : (site : TreeSite) (es : List Element) (places : List Place) (i : ℕ) (first now : Moment) {u : Unit {0}} → length es ≤ i

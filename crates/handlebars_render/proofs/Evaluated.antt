@@ -37,22 +37,22 @@ module _ (p : Setting) where
 
   here : (es : List Element) (places : List Place) (i : ℕ) (d x : Element) {now : State} {o : Outcome} → i < length es
       → get_or es i d ≡ x
-      → Runs p (Do (One (element_in first_tree i) (slice_get places i) x) (from_index first_tree es places (i + 1))) now [] o
+      → Runs p (Do (One (element_in first_tree i (slice_get places i)) x) (from_index first_tree es places (i + 1))) now [] o
       → Runs p (from_index first_tree es places i) now [] o
   here es places i d x {now = now} {o = o} lt is r =
       subst (λ (k : Steps). Runs p k now [] o) (sym (at_index first_tree es places i d lt))
-      (subst (λ (z : Element). Runs p (Do (One (element_in first_tree i) (slice_get places i) z)
+      (subst (λ (z : Element). Runs p (Do (One (element_in first_tree i (slice_get places i)) z)
       (from_index first_tree es places (i + 1))) now [] o) (sym is) r)
 
   pub silent-goes : (es : List Element) (places : List Place) (i : ℕ) (d x : Element) (s now next : State) {u : Unit {0}}
       → i < length es → get_or es i d ≡ x → SilentLeft es places i s now
-      → Does p (render_element (element_in first_tree i) x) now (Ok u) next → SilentLeft es places (i + 1) s next
+      → Does p (render_element (element_in first_tree i (slice_get places i)) x) now (Ok u) next → SilentLeft es places (i + 1) s next
   silent-goes es places i d x s now next lt is left does = λ o r. left o
       (here es places i d x lt is (did (does (λ v. Done) [] (Ended next) done) r))
 
   silent-over : (es : List Element) (places : List Place) (i : ℕ) (d x : Element) (s now : State) (r : Refusal)
       → i < length es → get_or es i d ≡ x → SilentLeft es places i s now
-      → Runs p (render_element (element_in first_tree i) x (λ v. Done)) now [] (Refused r)
+      → Runs p (render_element (element_in first_tree i (slice_get places i)) x (λ v. Done)) now [] (Refused r)
       → Runs p (from_index first_tree es places 0) s []
       (Refused (record r { spot = placed_at (slice_get places i) r.spot }))
   silent-over es places i d x s now r lt is left run = left _ (here es places i d x lt is (did_over run tt))
@@ -67,11 +67,11 @@ module _ (p : Setting) where
   pub silent-refused : (name : Option Text) (es : List Element) (places : List Place) (i : ℕ) (d x : Element)
       (s now next last : State) (e f g : RenderError)
       → i < length es → get_or es i d ≡ x → SilentLeft es places i s now
-      → IsMarked (One (element_in first_tree i) (slice_get places i) x) e f
+      → IsMarked (One (element_in first_tree i (slice_get places i)) x) e f
       → (reason_in g ≢ out_of_memory → spot_of g ≡ record (spot_of f) { name = name })
       → (reason_in g ≢ out_of_memory → cause_of g ≡ cause_of f)
       → (reason_in f ≡ out_of_memory → reason_in g ≡ out_of_memory)
-      → Does p (render_element (element_in first_tree i) x) now (Err e) next
+      → Does p (render_element (element_in first_tree i (slice_get places i)) x) now (Err e) next
       → Evals p (from_index first_tree es places 0) (renamed name) s (Err g) last
   silent-refused name es places i d x s now next last e f g lt is left m spot cause memory does = λ other.
       let kept : reason_in f ≢ out_of_memory = λ none. other (memory none) in (
@@ -79,5 +79,5 @@ module _ (p : Setting) where
         silent-over es places i d x s now (refusal_of e) lt is left (does (λ none. kept (m.memory none)) (λ v. Done)),
         ap (λ (r : Reason). record { reason = r; spot = spot_of g }) (ap reason_of (cause other))
             ∙ ap (λ (z : Spot). record { reason = reason_in f; spot = z }) (spot other)
-            ∙ ap (renamed name) (marked-refusal (One (element_in first_tree i) (slice_get places i) x) e f m kept),
+            ∙ ap (renamed name) (marked-refusal (One (element_in first_tree i (slice_get places i)) x) e f m kept),
       )

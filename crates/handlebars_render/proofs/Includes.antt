@@ -21,7 +21,7 @@ use Rattle.handlebars_meaning.specs.Means.{include_tag, line_at, line_out, on_li
 use Rattle.handlebars_meaning.specs.Pieces.{Piece, join}
 use Rattle.handlebars_meaning.specs.Questions.{view_of}
 use Rattle.handlebars_meaning.specs.Runs.{Outcome, Refused, IsOverInMemory, Runs, got, set, did, did_over, captured, captured_over, looked, below_limit, at_limit, stop}
-use Rattle.handlebars_meaning.specs.Sites.{Site, TreeSite, body_at}
+use Rattle.handlebars_meaning.specs.Sites.{as_part, Site, TreeSite, body_at}
 use Rattle.handlebars_meaning.specs.State.{KeptBlocks, Setting, State, push_frame, nearest_variables, partial_in}
 use Rattle.handlebars_meaning.specs.Steps.{Whole, Steps, Done, Do, CheckLimit, Get, Set, Prog, return, ask, state, perform, capture, find, check_limit, ◌>>=◌, ◌>>◌}
 use Rattle.handlebars_meaning.specs.Values.{HasView}
@@ -267,19 +267,19 @@ module _ (p : Setting) (may : Error → Type 0) where
         {s mid behind last : State} (began next : List Piece → State) {h between new : Held} {r : Answered}
         → s.inclusions < p.parts.limit → GivesValue p (base_value v.call.params) s d
         → mid ≡ with_current c (in_block_of d s)
-        → CarriesAhead p (capture (perform (Whole (body_at site 0) b))) may (at mid h) (Ok text) (at behind between)
+        → CarriesAhead p (capture (perform (Whole (body_at site (as_part 0)) b))) may (at mid h) (Ok text) (at behind between)
         → ((ps : List Piece) → began ps ≡ begin_inclusion v.indent (Some ps) behind) → ((ps : List Piece) → last ≡ end_inclusion s (next ps))
         → ((ps : List Piece) → string_bytes text ≡ join ps
         → CarriesOn p (perform (Whole there t)) may (at (began ps) between) r (at (next ps) new))
         → CarriesOn p (include_tree v there t (render_ahead site (body b))) may (at s h) r (at last new)
     unfolding ◌>>=◌
     inclusion-ahead site there t b d {text = text} {c = c} {s = s} {behind = behind} began next {h = h} {between = between} lt valued starts ahead counts ends x =
-        let m : Prog (List Piece) = capture (perform (Whole (body_at site 0) b)) in
+        let m : Prog (List Piece) = capture (perform (Whole (body_at site (as_part 0)) b)) in
         let f : List Piece → Prog (Unit {0}) = λ ps. rest there t s (Some ps) in
         carries_on-check_limit (state >>= inside there t (render_ahead site (body b))) lt
         (carries_on-get p may (inside there t (render_ahead site (body b)))
         (carries_on-then p may (enter_block v) (m >>= f) (enters d {u = tt} valued)
-        (ahead-then m f (ahead-renamed (body_at site 0) b
+        (ahead-then m f (ahead-renamed (body_at site (as_part 0)) b
         (subst (λ (z : State). CarriesAhead p m may (at z h) (Ok text) (at behind between)) starts ahead))
         (λ ps is. rest-carries there t s (Some ps) (counts ps) (ends ps) (x ps is)))))
 
@@ -287,16 +287,16 @@ module _ (p : Setting) (may : Error → Type 0) where
         {s mid behind last : State} {h new : Held}
         → s.inclusions < p.parts.limit → GivesValue p (base_value v.call.params) s d
         → mid ≡ with_current c (in_block_of d s)
-        → CarriesAhead p (capture (perform (Whole (body_at site 0) b))) may (at mid h) (Err e) (at behind new)
+        → CarriesAhead p (capture (perform (Whole (body_at site (as_part 0)) b))) may (at mid h) (Err e) (at behind new)
         → CarriesOn p (include_tree v there t (render_ahead site (body b))) may (at s h) (Err e) (at last new)
     unfolding ◌>>=◌
     inclusion-ahead_over site there t b d {e = e} {c = c} {s = s} {behind = behind} {h = h} {new = new} lt valued starts ahead =
-        let m : Prog (List Piece) = capture (perform (Whole (body_at site 0) b)) in
+        let m : Prog (List Piece) = capture (perform (Whole (body_at site (as_part 0)) b)) in
         let f : List Piece → Prog (Unit {0}) = λ ps. rest there t s (Some ps) in
         carries_on-check_limit (state >>= inside there t (render_ahead site (body b))) lt
         (carries_on-get p may (inside there t (render_ahead site (body b)))
         (carries_on-then p may (enter_block v) (m >>= f) (enters d {u = tt} valued)
-        (carries_on-elsewhere p may (ahead-over m f (ahead-renamed (body_at site 0) b
+        (carries_on-elsewhere p may (ahead-over m f (ahead-renamed (body_at site (as_part 0)) b
         (subst (λ (z : State). CarriesAhead p m may (at z h) (Err e) (at behind new)) starts ahead))))))
 
     -- whose value is refused, or whose block finds no memory
@@ -383,7 +383,7 @@ module _ (p : Setting) (may : Error → Type 0) where
           (carries_on-refuse p may e why)
 
       pub own-some : (b : Body) (t : Tree) {before after : Moment} {r : Answered} → body t ≡ b
-          → CarriesOn p (include_tree v (body_at site 0) t (return None)) may before r after
+          → CarriesOn p (include_tree v (body_at site (as_part 0)) t (return None)) may before r after
           → CarriesOn p (include_partial site v (own_block b)) may before r after
       own-some b t {before = before} {after = after} {r = r} is x =
           subst (λ (z : Body). CarriesOn p (include_partial site v (own_block z)) may before r after) is x
@@ -401,13 +401,13 @@ module _ (p : Setting) (may : Error → Type 0) where
 
       pub kept-own : (b : Body) (t : Tree) (k : Option (List Piece)) {c : Option Text} {s mid next last : State} {h new : Held} {r : Answered}
           → option_map join k ≡ None → body t ≡ b → mid ≡ with_current c s → last ≡ named_as_before s next
-          → CarriesOn p (perform (Whole (body_at site 0) t)) may (at mid h) r (at next new)
+          → CarriesOn p (perform (Whole (body_at site (as_part 0)) t)) may (at mid h) r (at next new)
           → CarriesOn p (write_kept site b s k) may (at s h) r (at last new)
       kept-own b t (Some ps) is same starts ends x = cc
       kept-own b t None {c = c} {s = s} {next = next} {last = last} {h = h} {new = new} {r = r} is same starts ends x =
           subst (λ (z : Body). CarriesOn p (render_own_block site z s) may (at s h) r (at last new)) same
-          (then_change (perform (Whole (body_at site 0) t)) (named_as_before s) ends (renamed (body_at site 0) t
-          (subst (λ (z : State). CarriesOn p (perform (Whole (body_at site 0) t)) may (at z h) r (at next new)) starts x)))
+          (then_change (perform (Whole (body_at site (as_part 0)) t)) (named_as_before s) ends (renamed (body_at site (as_part 0)) t
+          (subst (λ (z : State). CarriesOn p (perform (Whole (body_at site (as_part 0)) t)) may (at z h) r (at next new)) starts x)))
 
       pub kept-none : (b : Body) (k : Option (List Piece)) {s next : State} {h : Held} (e : RenderError)
           → option_map join k ≡ None → no_body ≡ b → IsRefusal (plain_refusal partial_block_not_found) e

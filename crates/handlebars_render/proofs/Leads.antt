@@ -21,7 +21,7 @@ use Rattle.handlebars_helpers.specs.Turns.{with_block}
 use Rattle.handlebars_meaning.specs.CarryOut.{carry_out, view_with_bodies, in_block, render_body, render_branch, render_with}
 use Rattle.handlebars_meaning.specs.Means.{render_chosen}
 use Rattle.handlebars_meaning.specs.Questions.{HasChoice, choice_of}
-use Rattle.handlebars_meaning.specs.Sites.{Site, TreeSite, body_at, inverse_at}
+use Rattle.handlebars_meaning.specs.Sites.{as_part, Site, TreeSite, body_at, inverse_at}
 use Rattle.handlebars_meaning.specs.State.{Setting, State, nearest_variables}
 use Rattle.handlebars_meaning.specs.Steps.{Prog, Steps, ask, ◌>>=◌}
 use Rattle.handlebars_render.specs.Boxed.{answer_of, error_of}
@@ -47,7 +47,7 @@ inverse-seen h (Some t) is = ap body_view is ∙ sym (call_inverse-view h)
 
 -- where the body is, or the inverse
 abbrev pub part_site : Site → Bool → TreeSite
-part_site site true = body_at site 0
+part_site site true = body_at site (as_part 0)
 part_site site false = inverse_at site 0
 
 module _ (p : Setting) (may : Error → Type 0) where

@@ -27,7 +27,7 @@ kept-outside = record { pieces = []; bases = []; holds = refl; lent = sym bases_
 
 abbrev kept_text : Option Text → KeptBlocks
 kept_text None = []
-kept_text (Some t) = Some (record { origin = of_text (element_in first_tree 0); text = t } ∷ []) ∷ []
+kept_text (Some t) = Some (record { origin = of_text (element_in first_tree 0 None); text = t } ∷ []) ∷ []
 
 kept_text-holds : (t : Option Text) → option_map join (newest (kept_text t)) ≡ t
 kept_text-holds None = refl

@@ -8,11 +8,10 @@ use denote.Ref.{Bor}
 use Rattle.handlebars_base.specs.Reasons.{out_of_memory}
 use Rattle.handlebars_base.specs.RenderRefusals.{reason_in, reason_of, spot_of, cause_of}
 use Rattle.handlebars_base.specs.declared.error.render_error.RenderError.{RenderError}
-use Rattle.handlebars_template.specs.Place.{Place}
 use Rattle.handlebars_template.specs.Tree.{Element}
 use Rattle.handlebars_template.specs.TreeView.{place_of}
 use Rattle.handlebars_template.specs.declared.template.tree.TemplateMapping.{TemplateMapping}
-use Rattle.handlebars_meaning.specs.Sites.{Site}
+use Rattle.handlebars_meaning.specs.Sites.{Site, site_place}
 use Rattle.handlebars_meaning.specs.Steps.{One}
 use Rattle.handlebars_meaning.specs.Runs.{placed_at}
 use Rattle.handlebars_render.proofs.Carry.{IsMarked}
@@ -34,9 +33,10 @@ through f h (Some a) = refl
 pub place_there : (ms : List TemplateMapping) (i : ℕ) (o : Option (Bor TemplateMapping)) → option_map (λ m. m.now) o ≡ slice_get ms i → option_map (λ m. place_of m.now) o ≡ slice_get (map place_of ms) i
 place_there ms i o is = sym (through (λ m. m.now) place_of o) ∙ ap (option_map place_of) is ∙ sym (slice_get-map place_of ms i)
 
-pub placed_marks : (site : Site) (place : Option Place) (x : Element) (e d : RenderError)
-    → (reason_in d ≢ out_of_memory → spot_of d ≡ placed_at place (spot_of e)) → cause_of d ≡ cause_of e → IsMarked (One site place x) e d
-placed_marks site place x e d is kept = record {
+pub placed_marks : (site : Site) (x : Element) (e d : RenderError)
+    → (reason_in d ≢ out_of_memory → spot_of d ≡ placed_at (site_place site) (spot_of e)) → cause_of d ≡ cause_of e
+    → IsMarked (One site x) e d
+placed_marks site x e d is kept = record {
   spot = is;
   cause = λ _. kept;
   memory = λ memory. ap reason_of kept ∙ memory;

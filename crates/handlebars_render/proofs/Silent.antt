@@ -1,5 +1,5 @@
 -- What is done with nothing written.
-use Rattle.std.proofs.Common.{◌≡◌, ◌≢◌, List, [], ◌∷◌, None, Result, Ok, Err, refl, sym, ◌∙◌, subst}
+use Rattle.std.proofs.Common.{◌≡◌, ◌≢◌, ℕ, List, [], ◌∷◌, None, Result, Ok, Err, refl, sym, ◌∙◌, subst}
 use Rattle.std.specs.declared.io.Error.{Error}
 use Rattle.handlebars_base.specs.Answers.{gives, refuses, IsRefusal}
 use Rattle.handlebars_base.specs.Bytes.{Text}
@@ -14,7 +14,7 @@ use Rattle.handlebars_meaning.specs.CarryOut.{change}
 use Rattle.handlebars_meaning.specs.Means.{do_deed, do_deeds, render_decorator, render_element, set_partial, shown_tag}
 use Rattle.handlebars_meaning.specs.Questions.{IsAnswered, Question, Reply, view_of}
 use Rattle.handlebars_meaning.specs.Runs.{Ended, Refused, Runs, done, refused, got, set, asked, did, did_over}
-use Rattle.handlebars_meaning.specs.Sites.{Site}
+use Rattle.handlebars_meaning.specs.Sites.{TreeSite, element_in}
 use Rattle.handlebars_meaning.specs.State.{Setting, State, with_nearest, with_partial}
 use Rattle.handlebars_meaning.specs.Steps.{One, Steps, Done, Do, Prog, ask, return, state, ◌>>=◌, ◌>>◌}
 use Rattle.handlebars_meaning.specs.Values.{HasView}
@@ -136,11 +136,12 @@ carries_on-does p may m (Ok u) d = goes_on (λ k r last c. record {
 })
 carries_on-does p may m (Err e) d = is_over (λ k. carries-no_value p may m k e d)
 
--- an element alone, which leaves its refusals as they are
-pub evals-does : (p : Setting) (site : Site) (x : Element) (s next : State) (r : Answered)
-    → Does p (render_element site x) s r next → Evals p (Do (One site None x) Done) (λ q. q) s r next
-evals-does p site x s next (Ok u) d = did (d (λ v. Done) [] (Ended next) done) done
-evals-does p site x s next (Err e) d = λ other. (refusal_of e, did_over (d other (λ v. Done)) tt, refl)
+-- an element alone, without a place, which leaves its refusals as they are
+pub evals-does : (p : Setting) (at : TreeSite) (i : ℕ) (x : Element) (s next : State) (r : Answered)
+    → Does p (render_element (element_in at i None) x) s r next
+    → Evals p (Do (One (element_in at i None) x) Done) (λ q. q) s r next
+evals-does p at i x s next (Ok u) d = did (d (λ v. Done) [] (Ended next) done) done
+evals-does p at i x s next (Err e) d = λ other. (refusal_of e, did_over (d other (λ v. Done)) tt, refl)
 
 -- an error handed on, perhaps in another state
 pub evals-handed : (p : Setting) (k : Steps) (seen : Refusal → Refusal) (s next last : State) (e d : RenderError)

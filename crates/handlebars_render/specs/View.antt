@@ -24,7 +24,6 @@ use Rattle.handlebars_scope.specs.LineView.{line_of}
 use Rattle.handlebars_scope.specs.Contexts.{data_of}
 use Rattle.handlebars_scope.specs.Resolve.{resolve}
 use Rattle.handlebars_scope.specs.Scopes.{Frame, nothing_at}
-use Rattle.handlebars_scope.specs.ScopeView.{frames_of}
 use Rattle.handlebars_base.specs.Outputs.{Held, held_of, write_reason}
 use Rattle.handlebars_base.specs.declared.output.StringOutput.{StringOutput}
 use Rattle.handlebars_scope.specs.Indentation.{written_in}

@@ -15,11 +15,12 @@ use Rattle.handlebars_meaning.specs.Runs.{Outcome, Ended, Refused, Faulted, NoMe
 use Rattle.handlebars_meaning.specs.State.{Setting, first_state}
 use Rattle.handlebars_meaning.specs.Steps.{◌>>=◌, ◌>>◌}
 use Rattle.handlebars_worked.specs.InclusionRows.{alone_on_line, indented_by, includes_at, over_templates}
-use Rattle.handlebars_worked.specs.PieceRows.{page_source, page_data, registered, LayoutSourceRow, ItemSourceRow, GivesPieces, PiecesRow}
+use Rattle.handlebars_worked.specs.PieceRows.{page_source, page_data, registered, LayoutSourceRow, ItemSourceRow, GivesPieces, PiecesRow, turns_data, TurnsRow, TurnsToldRow, InItemToldRow}
 use Rattle.handlebars_worked.specs.SourceRows.{alone, at, words}
 use Rattle.handlebars_worked.proofs.Answered.{none_own}
 use Rattle.handlebars_worked.proofs.HelperTrees.{on_lines, on_parameters, on_literals}
 use Rattle.handlebars_worked.proofs.RunOf.{RunFrom, run_of}
+use Rattle.handlebars_worked.proofs.ScopeTrees.{turns_tree, turns_source as turns_compiles}
 
 pub layout_source_row : LayoutSourceRow
 unfolding on_lines on_parameters
@@ -65,3 +66,15 @@ unfolding ◌>>=◌ ◌>>◌ escaped digits
 pieces_row =
     gives_pieces (compiles page_compiles)
     (run_of 400 (over_templates 64 registered page_data) none_own (render_tree page_tree) (first_state false)) refl
+
+pub turns_row : TurnsRow
+unfolding ◌>>=◌ ◌>>◌ escaped digits
+turns_row =
+    gives_pieces (compiles turns_compiles)
+    (run_of 400 (over_templates 64 [] turns_data) none_own (render_tree turns_tree) (first_state false)) refl
+
+pub turns_told_row : TurnsToldRow
+turns_told_row = refl
+
+pub in_item_told_row : InItemToldRow
+in_item_told_row = refl

@@ -70,6 +70,16 @@ pub shadow_source : Compiles (codes "{{#each a as |x|}}{{x}}{{/each}}") no_optio
 unfolding beginning_of closing_of chars line.name_step line.behind_step line.line_step texts.behind_byte path.plain_at path.part_at path.links_at path.links_of path.start_without_at_sign path.start_at path.shape_at path.shape_of path.reference_from path.path_at line.key_and_equals_at line.parameter_step line.item_step literal.literal_at literal.plain_at literal.undoubled_at literal.unbracketed_at literal.value_token literal.token_at behind_bar behind_beginning symbols_at
 shadow_source = answer_of-compiles no_options 3 _ _ refl
 
+abbrev pub turns_tree : Tree
+turns_tree = alone (scope (codes "each") (path_to (codes "a")) no_binding
+    (inside
+    (scope (codes "each") this no_binding (inside (show this ∷ []) (at 1 26 ∷ [])) no_body ∷ raw_string (codes ";") ∷ [])
+    (at 1 12 ∷ at 1 43 ∷ [])) no_body)
+
+pub turns_source : Compiles (codes "{{#each a}}{{#each this}}{{this}}{{/each}};{{/each}}") no_options (compiled turns_tree)
+unfolding beginning_of closing_of chars line.name_step line.behind_step line.line_step texts.behind_byte path.plain_at path.part_at path.links_at path.links_of path.start_without_at_sign path.start_at path.shape_at path.shape_of path.reference_from path.path_at line.key_and_equals_at line.parameter_step line.item_step literal.literal_at literal.plain_at literal.undoubled_at literal.unbracketed_at literal.value_token literal.token_at behind_bar behind_beginning
+turns_source = answer_of-compiles no_options 5 _ _ refl
+
 abbrev pub last_tree : Tree
 last_tree = alone (scope (codes "each") (path_to (codes "a")) no_binding
     (inside

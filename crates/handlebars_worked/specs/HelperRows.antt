@@ -19,6 +19,7 @@ use Rattle.handlebars_meaning.specs.Runs.{Refused}
 use Rattle.handlebars_meaning.specs.Answer.{FromSource, RenderAnswers}
 use Rattle.handlebars_worked.specs.Rows.{with, over, one, first_parts}
 use Rattle.handlebars_worked.specs.ScopeRows.{natural, Gives}
+use Rattle.handlebars_worked.specs.SourceRows.{at}
 
 -- ---- order and equality of values
 
@@ -96,7 +97,7 @@ len_given = with (codes "len") (natural 5)
 abbrev pub LenAloneRow : Type 0
 LenAloneRow =
     IsRefusedAt (over len_given) (codes "ab{{len}}c")
-    (record { origin = of_text (element_in first_tree 0); text = codes "ab" } ∷ []) 3
+    (record { origin = of_text (element_in first_tree 0 (Some (at 1 1))); text = codes "ab" } ∷ []) 3
     (param_not_found_for_name (codes "len") (codes "x"))
 
 -- `log` writes nothing.

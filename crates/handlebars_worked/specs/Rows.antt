@@ -92,7 +92,7 @@ ones = with (codes "a") (array (item (number (unsigned 1)) no_items))
 -- The text before the refusal is written.
 abbrev pub RefusalRow : Type 0
 RefusalRow = RenderAnswers (over ones) (FromSource no_options (codes "x{{a.x}}"))
-    (record { origin = of_text (element_in first_tree 0); text = codes "x" } ∷ []) (Refused wrong_index)
+    (record { origin = of_text (element_in first_tree 0 (Some (at 1 1))); text = codes "x" } ∷ []) (Refused wrong_index)
 
 -- A source that doesn't compile is refused before anything is written, over any data.
 abbrev pub UnclosedRow : Type 0

@@ -10,7 +10,7 @@ use Rattle.handlebars_template.specs.declared.template.tree.TemplateMapping.{Tem
 use Rattle.handlebars_template.proofs.Levels.{call_marks-view, element_view-Expression, element_view-HelperBlock, element_view-DecoratorExpression, element_view-DecoratorBlock, element_view-PartialExpression, element_view-PartialBlock, element_view-Comment, element_view-RawString}
 use Rattle.handlebars_template.proofs.Trees.{tree_view-out}
 use Rattle.handlebars_meaning.specs.Pieces.{of_text}
-use Rattle.handlebars_meaning.specs.Sites.{body_at, inverse_at, element_in, first_tree}
+use Rattle.handlebars_meaning.specs.Sites.{as_turn, as_part, body_at, inverse_at, element_in, first_tree}
 use Rattle.handlebars_helpers.specs.Choice.{body_if}
 use Rattle.handlebars_scope.specs.ScopeView.{frame_of}
 use Rattle.handlebars_helpers.specs.OwnView.{step_of}
@@ -188,7 +188,7 @@ block::render_rest-returns-in-Nothing-clause-renders g t c = λ site block v kep
 
 pub block::render_rest-returns-in-Body-clause-renders : goal.block::render_rest-returns-in-Body-clause-renders
 block::render_rest-returns-in-Body-clause-renders g t c = λ site block v kept. rw c.in-Body.is
-    (rw c.part_if.ensures at (c.render_part.ensures.renders (body_at site 0) kept))
+    (rw c.part_if.ensures at (c.render_part.ensures.renders (body_at site (as_part 0)) kept))
 
 pub block::render_rest-returns-in-Inverse-clause-renders : goal.block::render_rest-returns-in-Inverse-clause-renders
 block::render_rest-returns-in-Inverse-clause-renders g t c = λ site block v kept. rw c.in-Inverse.is
@@ -271,7 +271,7 @@ tree::render_tree-elements-preserved g t c = record {
       (below-seen element_view c.deref-element-items.result.now c.elements.index c.elements-test.true)
       (get_or-seen element_view c.deref-element-items.result.now c.elements.index c.element-item.result c.element-item.is)
       (c.elements.invariant.left at kept)
-      (carries-run _ _ (c.in_default-render_element.ensures.renders (element_in at c.elements.index) kept));
+      (carries-run _ _ (c.in_default-render_element.ensures.renders (element_in at c.elements.index (slice_get (map place_of c.args.template.now.mapping.items) c.elements.index)) kept));
   same = same-trans _ _ _ c.elements.invariant.same c.in_default-render_element.ensures.stays.same;
   kept = kept-trans c.elements.invariant.kept c.in_default-render_element.ensures.stays.kept;
 }
@@ -294,9 +294,9 @@ tree::render_tree-returns-in-Err-clause-renders g t c = λ at kept.
     (below-seen element_view c.deref-element-items.result.now c.elements.index c.elements-test.true)
     (get_or-seen element_view c.deref-element-items.result.now c.elements.index c.element-item.result c.element-item.is)
     (c.elements.invariant.left at kept)
-    (placed_marks _ _ _ _ _ (λ other. c.placed-placed.ensures.spot other ∙ ap (λ (z : Option Place). placed_at z (spot_of (error_of c.in-Err.e))) place)
+    (placed_marks _ _ _ _ (λ other. c.placed-placed.ensures.spot other ∙ ap (λ (z : Option Place). placed_at z (spot_of (error_of c.in-Err.e))) place)
     c.placed-placed.ensures.cause)
-    (carries-run _ _ (c.in-Err.ensures.renders (element_in at c.elements.index) kept))))))
+    (carries-run _ _ (c.in-Err.ensures.renders (element_in at c.elements.index (slice_get (map place_of c.args.template.now.mapping.items) c.elements.index)) kept))))))
 
 pub tree::render_tree-returns-in-Err-clause-stays : goal.tree::render_tree-returns-in-Err-clause-stays
 tree::render_tree-returns-in-Err-clause-stays g t c = record {
@@ -324,7 +324,7 @@ steps::take_step-returns-in-Write-clause-renders g t c = λ site i block v kept.
 
 pub steps::take_step-returns-in-Body-clause-renders : goal.steps::take_step-returns-in-Body-clause-renders
 steps::take_step-returns-in-Body-clause-renders g t c = λ site i block v kept. rw c.in-Body.is
-    (rw (body-seen c.args.helper.now c.as_ref.result c.as_ref.ensures.value) at (c.render_part.ensures.renders (body_at site i) kept))
+    (rw (body-seen c.args.helper.now c.as_ref.result c.as_ref.ensures.value) at (c.render_part.ensures.renders (body_at site (as_part i)) kept))
 
 pub steps::take_step-returns-in-Inverse-clause-renders : goal.steps::take_step-returns-in-Inverse-clause-renders
 steps::take_step-returns-in-Inverse-clause-renders g t c = λ site i block v kept. rw c.in-Inverse.is
@@ -395,7 +395,7 @@ each::render_in-returns-clause-renders g t c = λ site i block v kept.
     let more = one_more kept None c.block-bases.ensures.bases in
     carries_on-in_block _ _ (frame_of c.args.scope) _ (ap (keeping more) c.in_ok-push_block.ensures.ok)
     (ap (keeping kept) c.pop_block.ensures.state ∙ pop_frame-lent kept None c.block-bases.ensures.bases (state_of c.render_part-answer.new.rc))
-    (rw (body-seen c.args.helper.now c.as_ref.result c.as_ref.ensures.value) at (c.render_part-answer.ensures.renders (body_at site i) more))
+    (rw (body-seen c.args.helper.now c.as_ref.result c.as_ref.ensures.value) at (c.render_part-answer.ensures.renders (body_at site (as_part i)) more))
 
 pub each::render_each-returns-in_err-push_block-clause-renders : goal.each::render_each-returns-in_err-push_block-clause-renders
 each::render_each-returns-in_err-push_block-clause-renders g t c = λ site block v kept.
@@ -422,7 +422,7 @@ each::take_turns-returns-in-Err-clause-renders g t c = λ site block v kept unle
     c.in-Some.ensures (c.turns.invariant.left site block v kept unlent)
     (carries_on-turn _ _ site c.turns.invariant.number (view_with_bodies block (call_view c.args.helper.now) v) (path_view c.args.path) (turn_view c.in-Some.turn)
     (rw (sym (binding-seen c.args.helper.now c.as_ref.result c.as_ref.ensures.value)) (nearest-lent kept (turn_frame (path_view c.args.path) _ (turn_view c.in-Some.turn)) _ _ (c.in_ok-set_up_turn.ensures.ok c.turns.invariant.below) unlent))
-    (rw (body-seen c.args.helper.now c.as_ref-in-Some.result c.as_ref-in-Some.ensures.value) at (c.in-Err.ensures.renders (body_at site c.turns.invariant.number)
+    (rw (body-seen c.args.helper.now c.as_ref-in-Some.result c.as_ref-in-Some.ensures.value) at (c.in-Err.ensures.renders (body_at site (as_turn c.turns.invariant.number))
     (in-turn kept (c.block-bases.ensures.bases ∙ ap (λ (bs : List (Option Data)). None ∷ bs) c.behind.ensures.bases) unlent))))
 
 pub each::take_turns-turns-init : goal.each::take_turns-turns-init
@@ -443,7 +443,7 @@ each::take_turns-turns-preserved g t c = record {
       c.in-Some.ensures (c.turns.invariant.left site block v kept unlent)
       (carries_on-turn _ _ site c.turns.invariant.number (view_with_bodies block (call_view c.args.helper.now) v) (path_view c.args.path) (turn_view c.in-Some.turn)
       (rw (sym (binding-seen c.args.helper.now c.as_ref.result c.as_ref.ensures.value)) (nearest-lent kept (turn_frame (path_view c.args.path) _ (turn_view c.in-Some.turn)) _ _ (c.in_ok-set_up_turn.ensures.ok c.turns.invariant.below) unlent))
-      (rw (body-seen c.args.helper.now c.as_ref-in-Some.result c.as_ref-in-Some.ensures.value) at (c.in_default-render_part.ensures.renders (body_at site c.turns.invariant.number)
+      (rw (body-seen c.args.helper.now c.as_ref-in-Some.result c.as_ref-in-Some.ensures.value) at (c.in_default-render_part.ensures.renders (body_at site (as_turn c.turns.invariant.number))
       (in-turn kept (c.block-bases.ensures.bases ∙ ap (λ (bs : List (Option Data)). None ∷ bs) c.behind.ensures.bases) unlent))));
   same = same-trans _ _ _ c.turns.invariant.same c.in_default-render_part.ensures.stays.same;
   outer = outer-trans c.turns.invariant.outer
@@ -528,7 +528,7 @@ partial::include-returns-in-Some-template-2-clause-renders g t c = λ site kept.
     (rw c.name-in-None.ensures at c.in-None-template.ensures)
     (own-some _ _ v site v.body (tree_view c.in-Some-template-2.body.now)
     (rw c.in-Some-template-2.is at c.template-in-None-template.ensures)
-    (c.include_tree-in-Some-template-2.ensures.renders site (body_at site 0) kept))
+    (c.include_tree-in-Some-template-2.ensures.renders site (body_at site (as_part 0)) kept))
 
 pub partial::include-returns-clause-renders : goal.partial::include-returns-clause-renders
 partial::include-returns-clause-renders g t c = λ site kept.
@@ -599,7 +599,7 @@ partial::include_tree-returns-clause-renders g t c = λ site there kept.
           (λ ps. placed v.indent (Some ps ∷ kept.pieces) c.in-Ok.count (lending (b ∷ kept.bases) (state_of w.render_ahead.new.rc)))
           (λ ps. placed v.indent (Some ps ∷ kept.pieces) c.in-Ok.count (lending (b ∷ kept.bases) (state_of w.render_under.new.rc)))
           c.in-Ok.ensures.ok.0 stands.1 (ap (placed w0.indent kept.pieces w0.inclusions) begins)
-          (w.in-Ok-render_ahead.ensures.ahead (body_at site 0) more _)
+          (w.in-Ok-render_ahead.ensures.ahead (body_at site (as_part 0)) more _)
           (λ ps. kept-more v.indent w0.indent (Some ps) kept.pieces w0.inclusions c.in-Ok.count (lending (b ∷ kept.bases) (state_of w.render_ahead.new.rc)) c.in-Ok.ensures.ok.1)
           (λ ps. ap (keeping kept) ((rw w.rc-is at c.end.ensures.state) ∙ ap (λ (n : Option Text). with_current n (pop_frame (state_of w.render_under.new.rc))) c.in_ok-name.ensures.name)
           ∙ named-lent kept b c.block-bases.ensures.bases (state_of c.args.rc.now).current (state_of w.render_under.new.rc))
@@ -613,7 +613,7 @@ partial::include_tree-returns-clause-renders g t c = λ site there kept.
       | partial::include_tree-in-Some+in-Err-render_ahead w ↦
           rw (w.answer-is, w.sink-is, w.in-Some.is)
           (inclusion-ahead_over _ _ v site there u (tree_view w.in-Some.body.now) stands.0 {c = None} c.in-Ok.ensures.ok.0 stands.1
-          (ap (placed w0.indent kept.pieces w0.inclusions) begins) (w.in-Err-render_ahead.ensures.ahead (body_at site 0) more _))
+          (ap (placed w0.indent kept.pieces w0.inclusions) begins) (w.in-Err-render_ahead.ensures.ahead (body_at site (as_part 0)) more _))
       | partial::include_tree-in-None w ↦
           rw (w.answer-is, w.sink-is, w.in-None.is)
           (inclusion-plain _ _ v there u stands.0 {c = None} c.in-Ok.ensures.ok.0 stands.1
@@ -639,7 +639,7 @@ partial::render_kept-returns-clause-renders g t c = λ site kept.
     (kept.holds ∙ ap (option_map (λ t. t.now)) c.in_default.is) (rw c.in-Some-template.is at c.template.ensures)
     (ap (keeping kept) c.take_name-name.ensures.state)
     (ap (keeping kept) (c.set_current_template_name.ensures.state ∙ ap (λ (n : Option Text). with_current n (state_of c.render_tree-answer.new.rc)) c.take_name-name.ensures.name))
-    (c.render_tree-answer.ensures.renders (body_at site 0) kept)
+    (c.render_tree-answer.ensures.renders (body_at site (as_part 0)) kept)
 
 -- ---- nodes
 
@@ -653,7 +653,7 @@ block::render_tag-call_each-requires g t c κs inside = (
       (
         c.requires.nodes,
         (rw c.in-Ok-Each.field-0-is at
-            (c.in-Ok-Each.ensures.comes (element_in first_tree 0) (kept-any (within c.args.environment.now)))).0.1,
+            (c.in-Ok-Each.ensures.comes (element_in first_tree 0 None) (kept-any (within c.args.environment.now)))).0.1,
       ),
     ),
   ),
@@ -669,7 +669,7 @@ block::render_tag-call_with-requires g t c κs inside = (
       (
         c.requires.nodes,
         (rw c.in-Ok-With.field-0-is at
-            (c.in-Ok-With.ensures.comes (element_in first_tree 0) (kept-any (within c.args.environment.now)))).0.1,
+            (c.in-Ok-With.ensures.comes (element_in first_tree 0 None) (kept-any (within c.args.environment.now)))).0.1,
       ),
     ),
   ),

@@ -21,7 +21,7 @@ elements-preserved g c = (
       c.elements.index (alone_view c.element-item.result) (alone_view c.element-item.result) _ _ _
       (below-seen alone_view c.deref-element-items.result.now c.elements.index c.elements-test.true)
       (get_or-seen alone_view c.deref-element-items.result.now c.elements.index c.element-item.result c.element-item.is)
-      (c.elements.invariant.0 kept) (c.in_default.ensures.does (element_in first_tree c.elements.index) kept),
+      (c.elements.invariant.0 kept) (c.in_default.ensures.does (element_in first_tree c.elements.index (slice_get (map place_of c.args.template.now.mapping.items) c.elements.index)) kept),
   kept-trans c.elements.invariant.1 c.in_default.ensures.kept,
 )
 
@@ -39,10 +39,10 @@ returns-in-Err-clause-evals g c = λ kept.
     (below-seen alone_view c.deref-element-items.result.now c.elements.index c.elements-test.true)
     (get_or-seen alone_view c.deref-element-items.result.now c.elements.index c.element-item.result c.element-item.is)
     (c.elements.invariant.0 kept)
-    (placed_marks _ _ _ _ _ (λ other. c.placed.ensures.spot other ∙ ap (λ (z : Option Place). placed_at z (spot_of (error_of c.in-Err.e))) place)
+    (placed_marks _ _ _ _ (λ other. c.placed.ensures.spot other ∙ ap (λ (z : Option Place). placed_at z (spot_of (error_of c.in-Err.e))) place)
     c.placed.ensures.cause)
     c.renamed.ensures.spot c.renamed.ensures.cause c.renamed.ensures.memory
-    (c.in-Err.ensures.does (element_in first_tree c.elements.index) kept))))
+    (c.in-Err.ensures.does (element_in first_tree c.elements.index (slice_get (map place_of c.args.template.now.mapping.items) c.elements.index)) kept))))
 
 pub returns-clause-evals : goal.returns-clause-evals
 returns-clause-evals g c = λ kept.

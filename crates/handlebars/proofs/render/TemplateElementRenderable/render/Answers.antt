@@ -8,10 +8,10 @@ use Rattle.handlebars.proofs.render.TemplateElementRenderable.render.Goals as go
 
 pub returns-in-Ok-clause-renders : goal.returns-in-Ok-clause-renders
 returns-in-Ok-clause-renders g c = λ ready.
-    carries-only _ _ _ (λ spot. refl) ((rw c.outside-environment.ensures at c.in-Ok.ensures.renders) (element_in first_tree 0) kept-outside)
+    carries-only _ _ _ (λ spot. refl) ((rw c.outside-environment.ensures at c.in-Ok.ensures.renders) (element_in first_tree 0 None) kept-outside)
 
 pub returns-in-Err-clause-renders : goal.returns-in-Err-clause-renders
 returns-in-Err-clause-renders g c = λ ready.
     carries-failed _ _ _ c.args.rc.now c.render_element_into.new.rc c.fail_after.new.rc _ _ (error_of c.in-Err.e)
     c.into_error.result c.fail_after.result c.into_error.ensures c.fail_after.ensures.answer c.fail_after.ensures.err
-    (carries-only _ _ _ (λ spot. refl) ((rw c.outside-environment.ensures at c.in-Err.ensures.renders) (element_in first_tree 0) kept-outside))
+    (carries-only _ _ _ (λ spot. refl) ((rw c.outside-environment.ensures at c.in-Err.ensures.renders) (element_in first_tree 0 None) kept-outside))

@@ -11,12 +11,12 @@ use Rattle.handlebars.proofs.render.evaluable.TemplateElementEvaluable.eval.Goal
 
 pub returns-in-Ok-clause-evals : goal.returns-in-Ok-clause-evals
 returns-in-Ok-clause-evals g c = λ ready.
-    evals-does _ (element_in first_tree 0) (decorator_alone (element_view c.args.self.now)) (state_of c.args.rc.now)
-    (state_of c.eval_element.new.rc) (Ok tt) ((rw c.outside-environment.ensures at c.in-Ok.ensures.does) (element_in first_tree 0) kept-outside)
+    evals-does _ first_tree 0 (decorator_alone (element_view c.args.self.now)) (state_of c.args.rc.now)
+    (state_of c.eval_element.new.rc) (Ok tt) ((rw c.outside-environment.ensures at c.in-Ok.ensures.does) (element_in first_tree 0 None) kept-outside)
 
 pub returns-in-Err-clause-evals : goal.returns-in-Err-clause-evals
 returns-in-Err-clause-evals g c = λ ready.
     evals-failed _ _ _ (λ r. r) _ (state_of c.eval_element.new.rc) _ (error_of c.in-Err.e) c.into_error.result
     c.fail_after.result refl c.into_error.ensures c.fail_after.ensures.answer
-    (evals-does _ (element_in first_tree 0) (decorator_alone (element_view c.args.self.now)) (state_of c.args.rc.now)
-    (state_of c.eval_element.new.rc) (Err (error_of c.in-Err.e)) ((rw c.outside-environment.ensures at c.in-Err.ensures.does) (element_in first_tree 0) kept-outside))
+    (evals-does _ first_tree 0 (decorator_alone (element_view c.args.self.now)) (state_of c.args.rc.now)
+    (state_of c.eval_element.new.rc) (Err (error_of c.in-Err.e)) ((rw c.outside-environment.ensures at c.in-Err.ensures.does) (element_in first_tree 0 None) kept-outside))
