@@ -14,10 +14,10 @@ use Rattle.handlebars_template.specs.declared.template.tree.HelperTemplate.{Help
 use Rattle.handlebars_template.proofs.Levels.{call_binding-view}
 use Rattle.handlebars_base.specs.Outputs.{Held}
 use Rattle.handlebars_scope.specs.Scopes.{Frame}
-use Rattle.handlebars_meaning.specs.Sites.{Site}
+use Rattle.handlebars_meaning.specs.Sites.{as_turn, body_at, Site}
 use Rattle.handlebars_helpers.specs.CallView.{HelperView}
 use Rattle.handlebars_helpers.specs.Turns.{StandsBelow, Turn, turn_name, turn_frame}
-use Rattle.handlebars_meaning.specs.CarryOut.{render_body, take_turn, take_turns}
+use Rattle.handlebars_meaning.specs.CarryOut.{render_branch, take_turn, take_turns}
 use Rattle.handlebars_meaning.specs.State.{Setting, State, pop_frame, nearest_as, with_nearest}
 use Rattle.handlebars_meaning.specs.Steps.{Steps, ◌>>◌}
 use Rattle.handlebars_render.specs.Boxed.{answer_of, error_of}
@@ -119,7 +119,7 @@ module _ (p : Setting) (may : Error → Type 0) where
   -- a turn: the nearest block is set up, and then the body is rendered
   pub carries_on-turn : (site : Site) (i : ℕ) (h : HelperView) (path : Option (List Text)) (t : Turn)
       {s mid : State} {held : Held} {after : Moment} {r : Answered}
-      → mid ≡ with_nearest (turn_frame path h.binding t) s → CarriesOn p (render_body site i h) may (at mid held) r after
+      → mid ≡ with_nearest (turn_frame path h.binding t) s → CarriesOn p (render_branch (body_at site (as_turn i)) h.body) may (at mid held) r after
       → CarriesOn p (take_turn site i h path t) may (at s held) r after
   carries_on-turn site i h path t is c =
-      carries_on-changed p may (with_nearest (turn_frame path h.binding t)) (render_body site i h) is c
+      carries_on-changed p may (with_nearest (turn_frame path h.binding t)) (render_branch (body_at site (as_turn i)) h.body) is c
