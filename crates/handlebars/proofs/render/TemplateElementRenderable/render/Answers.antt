@@ -1,4 +1,4 @@
-use Rattle.std.proofs.Common.{refl}
+use Rattle.std.proofs.Common.{None, refl}
 use Rattle.handlebars_meaning.specs.Sites.{first_tree, element_in}
 use Rattle.handlebars_render.proofs.Carry.{carries-only}
 use Rattle.handlebars_render.specs.Boxed.{error_of}

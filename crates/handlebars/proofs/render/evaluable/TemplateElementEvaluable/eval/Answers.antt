@@ -1,4 +1,4 @@
-use Rattle.std.proofs.Common.{Ok, Err, refl}
+use Rattle.std.proofs.Common.{None, Ok, Err, refl}
 use Rattle.handlebars_template.specs.TreeView.{element_view}
 use Rattle.handlebars_meaning.specs.Evaluation.{decorator_alone}
 use Rattle.handlebars_meaning.specs.Sites.{first_tree, element_in}
