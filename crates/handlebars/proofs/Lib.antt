@@ -14,6 +14,7 @@ pub mod ReadFiles
 pub mod Rendered
 pub mod Stored
 pub mod TakenBack
+pub mod Telling
 pub mod Texts
 pub mod Walks
 pub mod WithoutFiles

@@ -3,22 +3,21 @@ use Rattle.std.proofs.Common.{◌≡◌, true, Ok, Err, sym, subst}
 use Rattle.std.specs.Prelude.{OnErr}
 use Rattle.std.specs.declared.io.Error.{Error}
 use Rattle.handlebars_base.specs.declared.error.render_error.RenderError.{RenderError}
-use Rattle.handlebars_base.specs.Outputs.{Held}
 use Rattle.handlebars_meaning.specs.State.{Setting}
 use Rattle.handlebars_meaning.specs.Steps.{Steps}
 use Rattle.handlebars_render.specs.Boxed.{IsHandedOn}
-use Rattle.handlebars_render.specs.View.{Answered, CarriesOut, first_moment}
-use Rattle.handlebars_render.proofs.Carry.{carries-handed}
+use Rattle.handlebars_render.specs.View.{Answered, CarriesOut, Holding, state_of}
+use Rattle.handlebars_render.proofs.Carry.{at, carries-handed}
 use Rattle.handlebars_render.specs.declared.context.RenderContext.{RenderContext}
 
 -- the error is handed on, and then the mark is set
 pub carries-failed : (p : Setting) (k : Steps) (may : Error → Type 0) (first mid last : RenderContext)
-    (h new : Held) (e d : RenderError) (s : Answered) → IsHandedOn e d → s ≡ Err d
+    (h new : Holding) (e d : RenderError) (s : Answered) → IsHandedOn e d → s ≡ Err d
     → OnErr s (last ≡ record mid { failed = true })
-    → CarriesOut p k may (first_moment first h) (Err e) (first_moment mid new)
-    → CarriesOut p k may (first_moment first h) s (first_moment last new)
+    → CarriesOut p k may (at (state_of first) h) (Err e) (at (state_of mid) new)
+    → CarriesOut p k may (at (state_of first) h) s (at (state_of last) new)
 carries-failed p k may first mid last h new e d (Ok u) handed same err c = cc
 carries-failed p k may first mid last h new e d (Err f) handed same err c =
-    subst (λ (z : RenderContext). CarriesOut p k may (first_moment first h) (Err f) (first_moment z new)) (sym err)
-    (subst (λ (z : Answered). CarriesOut p k may (first_moment first h) z (first_moment mid new)) (sym same)
+    subst (λ (z : RenderContext). CarriesOut p k may (at (state_of first) h) (Err f) (at (state_of z) new)) (sym err)
+    (subst (λ (z : Answered). CarriesOut p k may (at (state_of first) h) z (at (state_of mid) new)) (sym same)
     (carries-handed p may e d handed c))

@@ -7,7 +7,6 @@ use Rattle.serde.specs.Event.{Log}
 use Rattle.serde_json.specs.Data.{Data}
 use Rattle.handlebars_base.specs.Answers.{IsRefusal, refuses}
 use Rattle.handlebars_base.specs.Bytes.{Text}
-use Rattle.handlebars_base.specs.Outputs.{Held}
 use Rattle.handlebars_base.specs.Reasons.{Refusal, Spot, nowhere, out_of_memory}
 use Rattle.handlebars_base.specs.RenderRefusals.{plain_refusal, reason_in, refusal_of, spot_of}
 use Rattle.handlebars_base.specs.declared.error.render_error.RenderError.{RenderError}
@@ -19,7 +18,7 @@ use Rattle.handlebars_meaning.specs.Pieces.{Piece, join}
 use Rattle.handlebars_meaning.specs.Runs.{Outcome, Refused, IsStop, Means}
 use Rattle.handlebars_meaning.specs.State.{IsLawful, Setting, State, first_state}
 use Rattle.handlebars_laws.proofs.RunLaws.{Runs-beginning}
-use Rattle.handlebars_render.specs.View.{Answered, CarriesOut, Tells, ended, refusal, fault, no_memory}
+use Rattle.handlebars_render.specs.View.{Answered, CarriesOut, Holding, Tells, ended, refusal, fault, no_memory}
 use Rattle.handlebars_render.proofs.Carry.{at, memory_or}
 use Rattle.handlebars.specs.Calls.{BeginsWith, IsBeginningOfAnswer, Writes, all_written, refused_behind, writer_failed, memory_failed, WritesConverted, not_converted, no_memory_to_convert}
 use Rattle.handlebars.specs.Taken.{TellsTaken}
@@ -38,7 +37,7 @@ Appends-told (Some xs) now t told = subst (λ (n : Option Text). Appends (Some x
 -- ---- beginnings
 
 module _ (p : Setting) {B C : Beginning → Type 0} (to : (b : Beginning) → B b → C b) where
-  RenderAnswers-map : {ps : List Piece} {o : Outcome} → RenderAnswers p B ps o → RenderAnswers p C ps o
+  pub RenderAnswers-map : {ps : List Piece} {o : Outcome} → RenderAnswers p B ps o → RenderAnswers p C ps o
   RenderAnswers-map (not_begun b) = not_begun (to _ b)
   RenderAnswers-map (rendered b m) = rendered (to _ b) m
 
@@ -85,12 +84,12 @@ module _ (p : Setting) (lawful : IsLawful p.parts) (t : Tree) where
   writes_told {ps = ps} m (no_memory same is) w = memory_failed (join ps) is (stop_begins m tt) w
 
   -- a rendering to a writer that had taken nothing
-  pub writes_run : {may : Error → Type 0} {first next : State} {h new : Held} {before after : Option Text} {r : Answered}
+  pub writes_run : {may : Error → Type 0} {first next : State} {h new : Holding} {before after : Option Text} {r : Answered}
       → first ≡ first_state p.parts.recursive → h.text ≡ [] → TellsTaken before new.text after
       → CarriesOut p (render_tree t) may (at first h) r (at next new) → Writes p (BeginsWith t) before after r
   writes_run {before = before} {after = after} is empty told c =
       writes_told (subst (λ (s : State). Means p t s c.pieces c.outcome) is c.runs) c.tells
-      (subst (λ (z : Text). Appends before after z) (c.text ∙ ap (λ (z : Text). z ++ join c.pieces) empty)
+      (subst (λ (z : Text). Appends before after z) (c.gains.text ∙ ap (λ (z : Text). z ++ join c.pieces) empty)
       (Appends-told before after _ told))
 
 -- ---- what is refused before a run

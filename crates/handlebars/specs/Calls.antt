@@ -68,30 +68,45 @@ module _ (p : Setting) (begins : Beginning → Type 0) where
     pub refusals : (q : Refusal) (before after : Option Text) (r : Answered) → RefusesWith p begins q
         → (w : Writes before after r) → IsUnbroken w → IsErrAnd r (λ e. ∥ refusal_of e ≡ q ∥₁)
 
--- ---- calls to a writer that read files first
+-- ---- calls with an output that read files first
+
+module _ {S : Type 0} (reads : S → Text → Result (String Global) Error → S → Type 0) {E : Type 0} (r : RegistryOf E)
+    {X : Type 0} (IsAsBefore : X → X → Type 0) where
+  -- What such a call says of what its output holds, with the reader before and behind it. All files are read, and it is
+  -- written to with their trees; or one of them is refused, or memory, and nothing is written.
+  pub data Reading (asked : Option Text) (before after : S) (to : List Loaded → X → X → Answered → Type 0)
+      (first last : X) : Answered → Type 0 where
+    written_behind : {read : List Loaded} {a : Answered} → ReadsFor reads r asked before after read (Ok tt) → to read first last a
+        → Reading asked before after to first last a
+    refused_at_file : {read : List Loaded} {e : RenderError} {why : Stop} → ReadsFor reads r asked before after read (Err why)
+        → TellsStop why e → IsAsBefore first last → Reading asked before after to first last (Err e)
+    no_memory_to_read : {e : RenderError} → reason_in e ≡ out_of_memory → IsAsBefore first last
+        → Reading asked before after to first last (Err e)
+
+  -- What a call with a source says of its output and of the reader. Where the source doesn't compile, or there is no memory
+  -- for it, no file is asked for and nothing is written.
+  pub data ReadingSource (options : Options) (source : Text) (before after : S)
+      (to : List Loaded → X → X → Answered → Type 0) (first last : X) : Answered → Type 0 where
+    compiled_so : {t : Tree} {a : Answered} → Compiles source options (compiled t) → Reading None before after to first last a
+        → ReadingSource options source before after to first last a
+    refused_so : {e : RenderError} {f : TemplateRefusal} → Compiles source options (refused f) → after ≡ before
+        → refusal_of e ≡ plain_refusal (of_template f) → IsAsBefore first last → ReadingSource options source before after to first last (Err e)
+    no_memory_to_compile : {e : RenderError} → reason_in e ≡ out_of_memory → after ≡ before → IsAsBefore first last
+        → ReadingSource options source before after to first last (Err e)
+
+-- to a writer nothing was written
+abbrev pub AppendsNothing : Option Text → Option Text → Type 0
+AppendsNothing before after = Appends before after []
 
 module _ {S : Type 0} (reads : S → Text → Result (String Global) Error → S → Type 0) {E : Type 0} (r : RegistryOf E) where
-  -- What such a call says of a writer, with the reader before and behind it. All files are read, and it is written to with
-  -- their trees; or one of them is refused, or memory, and nothing is written.
-  pub data WritesReading (asked : Option Text) (before after : S) (to : List Loaded → Option Text → Option Text → Answered → Type 0)
-      (first last : Option Text) : Answered → Type 0 where
-    written_behind : {read : List Loaded} {a : Answered} → ReadsFor reads r asked before after read (Ok tt) → to read first last a
-        → WritesReading asked before after to first last a
-    refused_at_file : {read : List Loaded} {e : RenderError} {why : Stop} → ReadsFor reads r asked before after read (Err why)
-        → TellsStop why e → Appends first last [] → WritesReading asked before after to first last (Err e)
-    no_memory_to_read : {e : RenderError} → reason_in e ≡ out_of_memory → Appends first last []
-        → WritesReading asked before after to first last (Err e)
+  -- What calls say of a writer.
+  abbrev pub WritesReading : Option Text → S → S → (List Loaded → Option Text → Option Text → Answered → Type 0)
+      → Option Text → Option Text → Answered → Type 0
+  WritesReading = Reading reads r AppendsNothing
 
-  -- What a call with a source says of a writer and of the reader. Where the source doesn't compile, or there is no memory
-  -- for it, no file is asked for and nothing is written.
-  pub data WritesSource (options : Options) (source : Text) (before after : S)
-      (to : List Loaded → Option Text → Option Text → Answered → Type 0) (first last : Option Text) : Answered → Type 0 where
-    compiled_so : {t : Tree} {a : Answered} → Compiles source options (compiled t) → WritesReading None before after to first last a
-        → WritesSource options source before after to first last a
-    refused_so : {e : RenderError} {f : TemplateRefusal} → Compiles source options (refused f) → after ≡ before
-        → refusal_of e ≡ plain_refusal (of_template f) → Appends first last [] → WritesSource options source before after to first last (Err e)
-    no_memory_to_compile : {e : RenderError} → reason_in e ≡ out_of_memory → after ≡ before → Appends first last []
-        → WritesSource options source before after to first last (Err e)
+  abbrev pub WritesSource : Options → Text → S → S → (List Loaded → Option Text → Option Text → Answered → Type 0)
+      → Option Text → Option Text → Answered → Type 0
+  WritesSource = ReadingSource reads r AppendsNothing
 
 -- ---- calls that convert their data
 

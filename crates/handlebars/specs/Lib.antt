@@ -3,6 +3,7 @@ pub mod Store
 pub mod Taken
 pub mod Writers
 pub mod Calls
+pub mod PieceCalls
 pub mod Files
 pub mod Folder
 pub mod Dev

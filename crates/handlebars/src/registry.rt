@@ -18,8 +18,10 @@ mod calls;
 mod dev;
 mod files;
 mod markup;
+mod pieces;
 mod reading;
 mod stored;
+mod telling;
 mod writing;
 
 use crate::registry::dev::DevFiles;

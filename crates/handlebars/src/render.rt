@@ -28,6 +28,7 @@ use handlebars_render::context::RenderContext;
 use handlebars_render::entry::render_element_into;
 use handlebars_render::environment::outside;
 use handlebars_render::failure::{fail_after, ready};
+use handlebars_render::pieces::Spot;
 use handlebars_scope::context::Context;
 use handlebars_scope::context::bases::Bases;
 use handlebars_template::template::{Template, TemplateElement};
@@ -130,7 +131,8 @@ impl Renderable for TemplateElement {
             read: &NoTrees,
             log,
         };
-        let environment = outside(alloc, parts, data, &Bases::Outside);
+        let spot = Spot::first();
+        let environment = outside(alloc, parts, data, &Bases::Outside, &spot);
         match render_element_into(self, &environment, rc, out) {
             Ok(()) => Ok(()),
             Err(e) => fail_after(rc, Err(e.into_error())),

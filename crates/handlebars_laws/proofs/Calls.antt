@@ -109,7 +109,7 @@ module _ (p : Setting) (law : Law) (closed : Closed p law) (site : Site) (e : El
       take_turns-hold i path [] s fits h end l le next g = g l s tt (closed.same_next h)
       take_turns-hold i path (t ∷ ts) s fits h end l le next g =
           let first = closed.turn_next path view.binding t h in
-          render_body_at-holds (as_turn i) (with_nearest (turn_frame path view.binding t) s) (closed.next_fits fits first)
+          render_body_at-holds (as_turn i t.index) (with_nearest (turn_frame path view.binding t) s) (closed.next_fits fits first)
           (closed.next_well first) end l le (λ u. take_turns site (i + 1) view path ts next) (λ j n far is.
           take_turns-hold (i + 1) path ts n (closed.next_fits fits (closed.then_next first is)) (closed.next_well is) end j
           far next (λ k z to same. g k z to (closed.then_next first (closed.then_next is same))))

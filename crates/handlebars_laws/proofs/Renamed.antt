@@ -133,7 +133,7 @@ module _ (p : Setting) (n : Text) where
       unfolding ◌>>=◌ ◌>>◌
       take_turns-goes i path [] s c h k l g = g s c h
       take_turns-goes i path (t ∷ ts) s c h k l g =
-          both_get (both_set (render_branch-goes (body_at site (as_turn i)) x.body (with_nearest (turn_frame path x.binding t) s) c h
+          both_get (both_set (render_branch-goes (body_at site (as_turn i t.index)) x.body (with_nearest (turn_frame path x.binding t) s) c h
           _ _ (λ z d is. take_turns-goes (i + 1) path ts z d is k l g)))
 
       render_with-goes : (base : Base) (s : State) (c : Option Text)

@@ -1,5 +1,5 @@
 -- Calls and lone expressions do alike in alike states.
-use Rattle.std.proofs.Common.{ℕ, ◌+◌, Bool, true, false, List, [], ◌∷◌, Option, Some, None, refl, subst}
+use Rattle.std.proofs.Common.{◌≡◌, ℕ, ◌+◌, Bool, true, false, List, [], ◌∷◌, Option, Some, None, refl, sym, ap, subst}
 use Rattle.handlebars_base.specs.Answers.{gives}
 use Rattle.handlebars_base.specs.Bytes.{Text}
 use Rattle.handlebars_base.specs.Scoped.{Found, walked, value, missing}
@@ -9,10 +9,10 @@ use Rattle.handlebars_helpers.specs.CallView.{CallView, HelperView}
 use Rattle.handlebars_helpers.specs.Callee.{built, own, Target, calls_registered, calls_local}
 use Rattle.handlebars_helpers.specs.Choice.{Choice, the_body, the_inverse, body_in_block, body_in_turns, the_value, the_word, nothing, built_in_choice}
 use Rattle.handlebars_helpers.specs.Turns.{Turn, turn_frame, with_block}
-use Rattle.handlebars_meaning.specs.CarryOut.{view_with_bodies, render_body, take_turns, render_with, render_word, carry_out}
+use Rattle.handlebars_meaning.specs.CarryOut.{view_with_bodies, render_body, render_branch, take_turns, render_with, render_word, carry_out}
 use Rattle.handlebars_meaning.specs.Means.{line_in, render_chosen, render_helped, render_call, render_hook, render_found, render_lone_as, render_lone, render_expression}
 use Rattle.handlebars_meaning.specs.Questions.{IsAnswered, HasChoice, value_of, view_of, helper_of, called_as, hook_for, choice_of, hook_or_refusal}
-use Rattle.handlebars_meaning.specs.Sites.{as_turn, as_part, body_at, inverse_at, Site}
+use Rattle.handlebars_meaning.specs.Sites.{as_turn, as_part, body_at, inverse_at, Site, TreeSite}
 use Rattle.handlebars_meaning.specs.State.{Setting, State, push_frame, with_nearest, nearest_variables, helper_named}
 use Rattle.handlebars_meaning.specs.Steps.{◌>>=◌, ◌>>◌}
 use Rattle.handlebars_markup.specs.Blind.{calls_blind, IsWritten, AreBlindArgs, IsBlindBody}
@@ -38,6 +38,13 @@ module _ (p : Setting) (w : HasTwin p) (site : Site) (block : Bool) (c : Call)
   abbrev seen : CallView → HelperView
   seen v = view_with_bodies block c v
 
+  -- the body, in turns over members of one index
+  render_turn-alike : (at there : TreeSite) → at ≡ there → (s t : State) → AreSides p w s t
+      → LeadAlike p w s (render_branch at (call_body c)) t (render_branch there (call_body c))
+  render_turn-alike at there same s t h =
+      subst (λ (z : TreeSite). LeadAlike p w s (render_branch at (call_body c)) t (render_branch z (call_body c))) same
+      (render_branch-alike p w s t at (call_body c) h blind_body)
+
   take_turns-alike : (s t : State) (v u : CallView) (i : ℕ) (path : Option (List Text)) (ts us : List Turn)
       → AreSides p w s t → AreAlikeLists AreAlikeTurns ts us
       → LeadAlike p w s (take_turns site i (seen v) path ts) t (take_turns site i (seen u) path us)
@@ -46,10 +53,11 @@ module _ (p : Setting) (w : HasTwin p) (site : Site) (block : Bool) (c : Call)
   take_turns-alike s t v u i path (x ∷ xs) (y ∷ ys) h k next next' g =
       let first = turn_frame path (call_binding c) x in
       let second = turn_frame path (call_binding c) y in
-      render_branch-alike p w (with_nearest first s) (with_nearest second t) (body_at site (as_turn i)) (call_body c)
+      render_turn-alike (body_at site (as_turn i x.index)) (body_at site (as_turn i y.index))
+      (sym (ap (λ (z : Turn). body_at site (as_turn i z.index)) k.0.1)) (with_nearest first s) (with_nearest second t)
       (with_nearest-alike (registrations p.parts) s t first second h
       (λ f f' e. turn_frame-alike path (call_binding c) x y f f' k.0 e)
-      (turn_frame-blind (registrations p.parts) path (call_binding c) x)) blind_body
+      (turn_frame-blind (registrations p.parts) path (call_binding c) x))
       (λ z. take_turns site (i + 1) (seen v) path xs next) (λ z. take_turns site (i + 1) (seen u) path ys next')
       (λ n n' e. take_turns-alike n n' v u (i + 1) path xs ys e k.1 next next' g)
   take_turns-alike s t v u i path ts us h k next next' g = absurd k

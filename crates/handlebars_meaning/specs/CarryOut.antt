@@ -51,7 +51,7 @@ render_body site i h = render_branch (body_at site (as_part i)) h.body
 -- The nearest block is set up for a turn, and the body is rendered in it.
 abbrev pub take_turn : Site → ℕ → HelperView → Option (List Text) → Turn → Prog (Unit {0})
 take_turn site i h path t =
-    change (with_nearest (turn_frame path h.binding t)) >> render_branch (body_at site (as_turn i)) h.body
+    change (with_nearest (turn_frame path h.binding t)) >> render_branch (body_at site (as_turn i t.index)) h.body
 
 -- the turns in order, from a number on
 abbrev pub take_turns : Site → ℕ → HelperView → Option (List Text) → List Turn → Prog (Unit {0})

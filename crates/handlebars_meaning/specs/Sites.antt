@@ -6,13 +6,14 @@ use Rattle.handlebars_base.specs.Bytes.{Text}
 use Rattle.handlebars_template.specs.Place.{Place}
 use Rattle.handlebars_template.specs.Tree.{Tree, tree_name}
 
--- a time that an element renders its body: in the turn of this number of `each`, from 0, or as the part of this number
+-- a time that an element renders its body: as the part of this number, in the turn of `each` over the member of this index; or as
+-- the part of this number, in no turn
 pub data Time : Type 0 where
-  as_turn : ℕ → Time
+  as_turn : ℕ → ℕ → Time
   as_part : ℕ → Time
 
 abbrev pub number_of : Time → ℕ
-number_of (as_turn i) = i
+number_of (as_turn i index) = i
 number_of (as_part i) = i
 
 -- a tree: the one that the run begins with; the body or the inverse of the element at a site, with the number of parts that
@@ -32,8 +33,8 @@ site_place (element_in at i place) = place
 
 -- ---- what stands around an element, as that is told
 
--- the template in which it stands: the one that the run begins with, or one that is included, by its name, if it has one, as an inline partial
--- has none
+-- the template in which it stands: the one that the run begins with, or one that is included, by its name; an inline partial has
+-- none
 pub data Template : Type 0 where
   the_first : Template
   the_included : Option Text → Template
@@ -50,10 +51,10 @@ abbrev mutual
 
 -- a turn, behind those around it
 abbrev pub with_turn : Time → List ℕ → List ℕ
-with_turn (as_turn i) turns = turns ++ i ∷ []
+with_turn (as_turn i index) turns = turns ++ index ∷ []
 with_turn (as_part i) turns = turns
 
--- the number of the turn of each `each` around it, the outermost first
+-- the index of the member in the turn of each `each` around it, the outermost first
 abbrev mutual
   pub turns_at : TreeSite → List ℕ
   turns_at first_tree = []

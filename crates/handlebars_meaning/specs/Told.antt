@@ -1,7 +1,7 @@
 -- What is told of a piece: of what kind it is, and where it comes from.
-use Rattle.std.specs.Prelude.{List, Option, None, Some}
+use Rattle.std.specs.Prelude.{List, Option, None}
 use Rattle.handlebars_base.specs.Bytes.{Text}
-use Rattle.handlebars_base.specs.Scoped.{Found, walked, value, missing}
+use Rattle.handlebars_base.specs.Scoped.{path_in}
 use Rattle.handlebars_meaning.specs.Pieces.{Origin, of_text, of_value, of_raw, of_word, of_step, of_indent, site_of, Piece}
 use Rattle.handlebars_meaning.specs.Sites.{Whereabouts, whereabouts}
 
@@ -24,11 +24,6 @@ kind_of (of_step site i) = own_text
 kind_of (of_indent site) = indentation
 
 -- the path that a value was walked by, where it has one
-abbrev pub path_in : Found → Option (List Text)
-path_in (walked d path) = Some path
-path_in (value d) = None
-path_in missing = None
-
 abbrev pub path_of : Origin → Option (List Text)
 path_of (of_text site) = None
 path_of (of_value site found) = path_in found

@@ -8,7 +8,6 @@ use Rattle.handlebars_base.specs.RenderRefusals.{reason_in, refusal_of}
 use Rattle.handlebars_base.specs.Scoped.{Found, walked, value, missing, present_in}
 use Rattle.handlebars_base.specs.declared.error.render_error.RenderError.{RenderError}
 use Rattle.handlebars_template.specs.Tree.{Param, Call, call_name}
-use Rattle.handlebars_base.specs.Outputs.{Held}
 use Rattle.handlebars_meaning.specs.Sites.{Site}
 use Rattle.handlebars_helpers.specs.CallView.{CallView}
 use Rattle.handlebars_meaning.specs.State.{Setting, State}
@@ -17,7 +16,7 @@ use Rattle.handlebars_meaning.specs.Writing.{write_value}
 use Rattle.handlebars_meaning.specs.Questions.{value_of}
 use Rattle.handlebars_meaning.specs.Values.{HasValue}
 use Rattle.handlebars_meaning.specs.Means.{line_in, render_found, render_lone_as}
-use Rattle.handlebars_render.specs.View.{Moment, Answered, CarriesOn}
+use Rattle.handlebars_render.specs.View.{Answered, CarriesOn, Holding, Moment}
 use Rattle.handlebars_render.proofs.Carry.{at, carries_on-value, carries_on-no_value}
 use Rattle.handlebars_render.proofs.Asked.{gives-ask, refuses-ask}
 
@@ -54,7 +53,7 @@ module _ (p : Setting) (may : Error → Type 0) where
   found_there site c w missing d is a = absurd (None≢Some is)
 
   -- a value that is there
-  pub value_there : (site : Site) (c : Call) (w : CallView) (v : Found) (d : Data) {s : State} {h : Held}
+  pub value_there : (site : Site) (c : Call) (w : CallView) (v : Found) (d : Data) {s : State} {h : Holding}
       {after : Moment} {r : Answered} → HasValue p s (call_name c) (gives v) → present_in v ≡ Some d
       → CarriesOn p (write_value site v) may (at s h) r after
       → CarriesOn p (render_lone_as site c w None) may (at s h) r after
@@ -62,7 +61,7 @@ module _ (p : Setting) (may : Error → Type 0) where
       carries_on-value p may (ask (value_of (call_name c))) (render_found site c w)
       (gives-ask p (value_of (call_name c)) v g) (found_there site c w v d is a)
 
-  pub value_err : (site : Site) (c : Call) (w : CallView) (q : Param) {s next : State} {h : Held} (e : RenderError)
+  pub value_err : (site : Site) (c : Call) (w : CallView) (q : Param) {s next : State} {h : Holding} (e : RenderError)
       → call_name c ≡ q → (reason_in e ≢ out_of_memory → HasValue p s q (refuses (refusal_of e)))
       → CarriesOn p (render_lone_as site c w None) may (at s h) (Err e) (at next h)
   value_err site c w q {s = s} e same is =

@@ -7,12 +7,11 @@ use Rattle.handlebars_base.specs.Bytes.{Text}
 use Rattle.handlebars_base.specs.declared.error.render_error.RenderError.{RenderError}
 use Rattle.handlebars_template.specs.Place.{Place}
 use Rattle.handlebars_template.specs.Tree.{tree, Element, elements_of}
-use Rattle.handlebars_base.specs.Outputs.{Held}
 use Rattle.handlebars_meaning.specs.Sites.{TreeSite, element_in}
 use Rattle.handlebars_meaning.specs.State.{Setting, State}
 use Rattle.handlebars_meaning.specs.Steps.{One, Steps, Do, run, ◌>>=◌, ◌>>◌}
 use Rattle.handlebars_meaning.specs.Means.{render_elements, render_whole, todo}
-use Rattle.handlebars_render.specs.View.{Moment, CarriesOut}
+use Rattle.handlebars_render.specs.View.{CarriesOut, Holding, Moment}
 use Rattle.handlebars_render.proofs.Carry.{at, carries-done, carries-get, carries-set, carries-then, carries-over, IsMarked}
 
 -- the steps of the elements from an index on
@@ -63,7 +62,7 @@ module _ (p : Setting) (may : Error → Type 0) where
       (sym (drop_all i es over)) (carries-done p may))
 
   -- a tree: its name, then its elements
-  pub whole_with : (site : TreeSite) (n : Option Text) (es : List Element) (places : List Place) {s mid next : State} {h new : Held} {r : Result (Unit {0}) RenderError}
+  pub whole_with : (site : TreeSite) (n : Option Text) (es : List Element) (places : List Place) {s mid next : State} {h new : Holding} {r : Result (Unit {0}) RenderError}
       → mid ≡ record s { current = n } → CarriesOut p (from_index site es places 0) may (at mid h) r (at next new)
       → CarriesOut p (run (render_whole site (tree n (elements_of es) places))) may (at s h) r (at next new)
   unfolding ◌>>=◌ ◌>>◌

@@ -4,7 +4,6 @@ use Rattle.std.specs.declared.io.Error.{Error}
 use Rattle.std.specs.Result.{IsErrAnd}
 use denote.Ref.{Bor}
 use Rattle.handlebars_base.specs.Answers.{gives, refuses}
-use Rattle.handlebars_base.specs.Outputs.{Held}
 use Rattle.handlebars_base.specs.Reasons.{out_of_memory}
 use Rattle.handlebars_base.specs.RenderRefusals.{reason_in, refusal_of}
 use Rattle.handlebars_base.specs.declared.error.render_error.RenderError.{RenderError}
@@ -27,7 +26,7 @@ use Rattle.handlebars_meaning.specs.Steps.{Prog, Steps, ask, ◌>>=◌}
 use Rattle.handlebars_render.specs.Boxed.{answer_of, error_of}
 use Rattle.handlebars_render.specs.Chosen.{IsDone, part_if, part_view, render_rest}
 use Rattle.handlebars_render.specs.Judgement.{LeadsTo}
-use Rattle.handlebars_render.specs.View.{Answered, CarriesOn, CarriesOut, Moment, goes_on, is_over}
+use Rattle.handlebars_render.specs.View.{Answered, CarriesOn, CarriesOut, Holding, Moment, goes_on, is_over}
 use Rattle.handlebars_render.specs.declared.boxed.BoxedError.{BoxedError}
 use Rattle.handlebars_render.specs.declared.chosen.ToRender.{ToRender}
 use Rattle.handlebars_render.proofs.Asked.{gives-ask, refuses-ask}
@@ -68,14 +67,14 @@ module _ (p : Setting) (may : Error → Type 0) where
 
   -- want of memory, as `?` hands it on
   pub leads-no_memory : {T : Type 0} (m : Prog (Unit {0})) (left : T → Prog (Unit {0})) (r : Result T BoxedError) (s next : State)
-      (h : Held) → IsErrAnd r (λ e. reason_in (error_of e) ≡ out_of_memory)
+      (h : Holding) → IsErrAnd r (λ e. reason_in (error_of e) ≡ out_of_memory)
       → LeadsTo p may m (at s h) left (answer_of r) (at next h)
   leads-no_memory m left (Ok x) s next h is = absurd is
   leads-no_memory m left (Err e) s next h is = carries_on-no_memory p may (error_of e) is
 
   -- what is chosen by whatever is called
   pub leads-choice : {T : Type 0} (site : Site) (target : Target) (w : HelperView) (x : Choice) (left : T → Prog (Unit {0}))
-      (r : Result T RenderError) (s : State) (h : Held) (after : Moment) → HasChoice p s target w (gives x)
+      (r : Result T RenderError) (s : State) (h : Holding) (after : Moment) → HasChoice p s target w (gives x)
       → LeadsTo p may (carry_out site w x) (at s h) left r after
       → LeadsTo p may (render_chosen site target w) (at s h) left r after
   unfolding ◌>>=◌
@@ -85,7 +84,7 @@ module _ (p : Setting) (may : Error → Type 0) where
   leads-choice site target w x left (Err e) s h after has leads =
       carries_on-value p may (ask (choice_of target w)) (carry_out site w) (gives-ask p (choice_of target w) x has) leads
 
-  pub leads-refused : (site : Site) (target : Target) (w : HelperView) {s next : State} {h : Held} (e : RenderError)
+  pub leads-refused : (site : Site) (target : Target) (w : HelperView) {s next : State} {h : Holding} (e : RenderError)
       → (reason_in e ≢ out_of_memory → HasChoice p s target w (refuses (refusal_of e)))
       → CarriesOn p (render_chosen site target w) may (at s h) (Err e) (at next h)
   leads-refused site target w e is =
@@ -93,7 +92,7 @@ module _ (p : Setting) (may : Error → Type 0) where
       (λ other. refuses-ask p (choice_of target w) (is other))
 
   -- the body in a block that was made
-  pub leads-block : (site : Site) (h : HelperView) (base : Base) (f : Frame) {s : State} {held : Held}
+  pub leads-block : (site : Site) (h : HelperView) (base : Base) (f : Frame) {s : State} {held : Holding}
       → f ≡ with_block base h.binding (nearest_variables s.blocks)
       → (next : Unit {0} → Steps) (r : Answered) (last : Moment)
       → CarriesOut p (in_block f (render_body site 0 h) next) may (at s held) r last
@@ -103,7 +102,7 @@ module _ (p : Setting) (may : Error → Type 0) where
       carries-get p may (subst (λ (z : Frame). CarriesOut p (in_block z (render_body site 0 h) next) may (at s held) r last) is d)
 
   -- what is chosen is carried out
-  pub carries_on-choice : (site : Site) (target : Target) (w : HelperView) (x : Choice) {s : State} {h : Held} {after : Moment}
+  pub carries_on-choice : (site : Site) (target : Target) (w : HelperView) (x : Choice) {s : State} {h : Holding} {after : Moment}
       {r : Answered} → HasChoice p s target w (gives x) → CarriesOn p (carry_out site w x) may (at s h) r after
       → CarriesOn p (render_chosen site target w) may (at s h) r after
   carries_on-choice site target w x has a =

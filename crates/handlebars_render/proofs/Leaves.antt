@@ -11,7 +11,6 @@ use Rattle.handlebars_base.specs.declared.error.render_error.RenderError.{Render
 use Rattle.handlebars_template.specs.Tree.{Param, as_name, Call, call_marks, call_name, call_args, is_value}
 use Rattle.handlebars_scope.specs.LineView.{line_of}
 use Rattle.handlebars_scope.specs.LineState.{LineState}
-use Rattle.handlebars_base.specs.Outputs.{Held}
 use Rattle.handlebars_helpers.specs.CallView.{CallView}
 use Rattle.handlebars_helpers.specs.Callee.{Target}
 use Rattle.handlebars_helpers.specs.Choice.{Choice}
@@ -27,7 +26,7 @@ use Rattle.handlebars_meaning.specs.Values.{HasName, HasValue, HasView}
 use Rattle.handlebars_render.specs.Boxed.{answer_of, error_of}
 use Rattle.handlebars_render.specs.declared.boxed.BoxedError.{BoxedError}
 use Rattle.handlebars_render.specs.Next.{ComesTo, IsCall, Leaves, LeavesCall, Settles}
-use Rattle.handlebars_render.specs.View.{Moment, Answered, CarriesOn, CarriesOut, GivesValue, RefusesValue, goes_on, is_over, name_alone, with_line}
+use Rattle.handlebars_render.specs.View.{Answered, CarriesOn, CarriesOut, GivesValue, Holding, Moment, RefusesValue, goes_on, is_over, name_alone, with_line}
 use Rattle.handlebars_render.specs.declared.next.Next.{Next}
 use Rattle.handlebars_render.specs.declared.next.Next.TheVariants.{Done, Branch, Each, With, Call as Calls, Hook as Hooks}
 use Rattle.handlebars_render.proofs.BoundCalls.{choice-line}
@@ -185,45 +184,45 @@ module _ (p : Setting) where
     gives-nothing v lenient is = leaves-hook_as v None lenient is
 
 module _ (p : Setting) (may : Error → Type 0) where
-  carries-leaves : (m n : Prog (Unit {0})) (k : Unit {0} → Steps) {s : State} {h : Held} {r : Answered} {last : Moment}
+  carries-leaves : (m n : Prog (Unit {0})) (k : Unit {0} → Steps) {s : State} {h : Holding} {r : Answered} {last : Moment}
       → Leaves p m s n → CarriesOut p (n k) may (at s h) r last → CarriesOut p (m k) may (at s h) r last
   carries-leaves m n k leaves c = record {
     pieces = c.pieces;
     outcome = c.outcome;
     runs = leaves k c.pieces c.outcome c.runs;
-    text = c.text;
+    gains = c.gains;
     tells = c.tells;
   }
 
-  leaves-carries_on : (m n : Prog (Unit {0})) {s : State} {h : Held} {r : Answered} {after : Moment}
+  leaves-carries_on : (m n : Prog (Unit {0})) {s : State} {h : Holding} {r : Answered} {after : Moment}
       → Leaves p m s n → CarriesOn p n may (at s h) r after → CarriesOn p m may (at s h) r after
   leaves-carries_on m n leaves (goes_on c) = goes_on (λ k r last d. carries-leaves m n k leaves (c k r last d))
   leaves-carries_on m n leaves (is_over c) = is_over (λ k. carries-leaves m n k leaves (c k))
 
   -- what is left is carried out
-  pub carries_on-leaves : (m n : Prog (Unit {0})) {s : State} {h new : Held} {r : Answered} {after : Moment}
+  pub carries_on-leaves : (m n : Prog (Unit {0})) {s : State} {h new : Holding} {r : Answered} {after : Moment}
       → Leaves p m s n → new ≡ h → CarriesOn p n may (at s new) r after → CarriesOn p m may (at s h) r after
   carries_on-leaves m n {s = s} {r = r} {after = after} leaves same a =
-      leaves-carries_on m n leaves (subst (λ (z : Held). CarriesOn p n may (at s z) r after) same a)
+      leaves-carries_on m n leaves (subst (λ (z : Holding). CarriesOn p n may (at s z) r after) same a)
 
-  carries_on-gives : (m : Prog (Unit {0})) {s : State} {h : Held} {u : Unit {0}} → GivesValue p m s tt
+  carries_on-gives : (m : Prog (Unit {0})) {s : State} {h : Holding} {u : Unit {0}} → GivesValue p m s tt
       → CarriesOn p m may (at s h) (Ok u) (at s h)
   carries_on-gives m g = goes_on (λ k r last c. record {
     pieces = c.pieces;
     outcome = c.outcome;
     runs = g k c.pieces c.outcome c.runs;
-    text = c.text;
+    gains = c.gains;
     tells = c.tells;
   })
 
-  pub carries_on-refuses : (m : Prog (Unit {0})) {s next : State} {h : Held} (e : RenderError)
+  pub carries_on-refuses : (m : Prog (Unit {0})) {s next : State} {h : Holding} (e : RenderError)
       → (reason_in e ≢ out_of_memory → RefusesValue p m s (refusal_of e))
       → CarriesOn p m may (at s h) (Err e) (at next h)
   carries_on-refuses m e is = is_over (λ k. carries-no_value p may m k e is)
 
   module _ (site : Site) (block : Bool) (c : Call) where
     -- what leaves another program comes to what that one comes to
-    pub comes_to-leaves : (m n : Prog (Unit {0})) (s : State) (h new : Held) (r : Result Next RenderError)
+    pub comes_to-leaves : (m n : Prog (Unit {0})) (s : State) (h new : Holding) (r : Result Next RenderError)
         → Leaves p m s n → ComesTo p site block c n may (at s h) r new → ComesTo p site block c m may (at s h) r new
     comes_to-leaves m n s h new (Ok (Done line)) leaves a = leaves-carries_on m n leaves a
     comes_to-leaves m n s h new (Ok (Branch b)) leaves a = (call-leaves p site block c m n leaves a.0, a.1)
@@ -234,10 +233,10 @@ module _ (p : Setting) (may : Error → Type 0) where
     comes_to-leaves m n s h new (Err e) leaves a = leaves-carries_on m n leaves a
 
     -- what settles with nothing written
-    pub comes_to-settles : (m : Prog (Unit {0})) (s : State) (h new : Held) (r : Result Next RenderError)
+    pub comes_to-settles : (m : Prog (Unit {0})) (s : State) (h new : Holding) (r : Result Next RenderError)
         → new ≡ h → Settles p site block c m s r → ComesTo p site block c m may (at s h) r new
     comes_to-settles m s h new (Ok (Done line)) same a =
-        subst (λ (z : Held). CarriesOn p m may (at s h) (Ok tt) (at (with_line (line_of line) s) z)) (sym same)
+        subst (λ (z : Holding). CarriesOn p m may (at s h) (Ok tt) (at (with_line (line_of line) s) z)) (sym same)
         (subst (λ (z : LineState). CarriesOn p m may (at s h) (Ok tt) (at (with_line z s) h)) (sym a.1)
         (carries_on-gives m a.0))
     comes_to-settles m s h new (Ok (Branch b)) same a = (a, same)
@@ -246,10 +245,10 @@ module _ (p : Setting) (may : Error → Type 0) where
     comes_to-settles m s h new (Ok (Calls x)) same a = (a, same)
     comes_to-settles m s h new (Ok (Hooks x)) same a = (a, same)
     comes_to-settles m s h new (Err e) same a =
-        subst (λ (z : Held). CarriesOn p m may (at s h) (Err e) (at s z)) (sym same) (carries_on-refuses m e a)
+        subst (λ (z : Holding). CarriesOn p m may (at s h) (Err e) (at s z)) (sym same) (carries_on-refuses m e a)
 
     -- want of memory
-    pub comes_to-no_memory : (m : Prog (Unit {0})) (s : State) (h : Held) (r : Result Next BoxedError)
+    pub comes_to-no_memory : (m : Prog (Unit {0})) (s : State) (h : Holding) (r : Result Next BoxedError)
         → IsErrAnd r (λ e. reason_in (error_of e) ≡ out_of_memory) → ComesTo p site block c m may (at s h) (answer_of r) h
     comes_to-no_memory m s h (Ok x) is = absurd is
     comes_to-no_memory m s h (Err e) is = carries_on-refuses m (error_of e) (λ other. absurd (other is))

@@ -1,6 +1,5 @@
 -- States whose blocks are lent their bases.
-use Rattle.std.proofs.Common.{◌≡◌, List, [], ◌∷◌, Option, Some, None, option_map, refl, sym, ap, ◌∙◌}
-use Rattle.std.proofs.lemmas.List.{append-nil}
+use Rattle.std.proofs.Common.{◌≡◌, Bool, true, false, List, [], ◌∷◌, Option, Some, None, refl, sym, ap, ◌∙◌}
 use Rattle.serde_json.specs.Data.{Data}
 use Rattle.std.specs.Prelude.{unwrap_or}
 use Rattle.handlebars_base.specs.Answers.{Answer, answer_map, gives, refuses}
@@ -13,35 +12,29 @@ use Rattle.handlebars_scope.specs.Resolve.{or_else, resolve}
 use Rattle.handlebars_scope.specs.Scopes.{Frame}
 use Rattle.handlebars_scope.specs.declared.context.bases.Bases.TheVariants.{Outside}
 use Rattle.handlebars_scope.proofs.Bases.{bases_of-Outside}
-use Rattle.handlebars_meaning.specs.Inclusion.{newest}
-use Rattle.handlebars_meaning.specs.Pieces.{join, of_text}
-use Rattle.handlebars_meaning.specs.Sites.{element_in, first_tree}
-use Rattle.handlebars_meaning.specs.State.{KeptBlocks, State, pop_frame, nearest_as, nearest_variables, outer_frames, partial_in, with_nearest, with_partial}
+use Rattle.handlebars_meaning.specs.State.{State, pop_frame, nearest_as, nearest_variables, outer_frames, partial_in, with_nearest, with_partial}
 use Rattle.handlebars_meaning.specs.Values.{as_read, without_path}
-use Rattle.handlebars_render.specs.View.{KeptIn, IsUnlent, Within, with_current, keeping, lending, read_in}
+use Rattle.handlebars_render.specs.View.{Keeps, KeptIn, IsUnlent, Within, with_current, keeping, lending, read_in}
 
 -- ---- outside, and in one more block
 
-abbrev pub kept-outside : KeptIn (record { text = None; inclusions = 0; indent = None; bases = bases_of Outside })
-kept-outside = record { pieces = []; bases = []; holds = refl; lent = sym bases_of-Outside }
+abbrev pub kept-outside : KeptIn (record { kept = None; inclusions = 0; indent = None; bases = bases_of Outside })
+kept-outside = record { pieces = []; bases = []; lent = sym bases_of-Outside }
 
-abbrev kept_text : Option Text → KeptBlocks
-kept_text None = []
-kept_text (Some t) = Some (record { origin = of_text (element_in first_tree 0 None); text = t } ∷ []) ∷ []
+-- and nothing is kept there
+pub keeps-outside : (asks : Bool) → Keeps asks kept-outside
+keeps-outside true = refl
+keeps-outside false = refl
 
-kept_text-holds : (t : Option Text) → option_map join (newest (kept_text t)) ≡ t
-kept_text-holds None = refl
-kept_text-holds (Some t) = ap (λ (u : Text). Some u) (append-nil t)
-
--- there are pieces whose text is kept
+-- some pieces may be kept
 pub kept-any : (w : Within) → KeptIn w
-kept-any w = record { pieces = kept_text w.text; bases = w.bases; holds = kept_text-holds w.text; lent = refl }
+kept-any w = record { pieces = []; bases = w.bases; lent = refl }
 
 -- one more block is lent this, or nothing
 abbrev pub one_more : {w : Within} → KeptIn w → (b : Option Data) {bs : List (Option Data)} → bs ≡ b ∷ w.bases
     → KeptIn (record w { bases = bs })
 one_more kept b is =
-    record { pieces = kept.pieces; bases = b ∷ kept.bases; holds = kept.holds; lent = ap (λ cs. b ∷ cs) kept.lent ∙ sym is }
+    record { pieces = kept.pieces; bases = b ∷ kept.bases; lent = ap (λ cs. b ∷ cs) kept.lent ∙ sym is }
 
 -- ---- what is read
 
@@ -145,6 +138,5 @@ abbrev pub in-turn : {w : Within} (kept : KeptIn w) {bs : List (Option Data)} �
 in-turn {w = w} kept is unlent = record {
   pieces = kept.pieces;
   bases = kept.bases;
-  holds = kept.holds;
   lent = kept.lent ∙ unlent-behind w.bases unlent.0 (sym kept.lent ∙ unlent.1) ∙ sym is;
 }

@@ -1,3 +1,5 @@
+mod Tells
+mod Told
 pub mod Carry
 pub mod Puts
 mod Asked
@@ -26,6 +28,7 @@ mod Turns
 pub mod Silent
 mod Evaluated
 mod Sinks
+mod Stands
 mod Includes
 mod Bases
 mod Tags

@@ -122,3 +122,8 @@ module _ (p : Setting) (s : State) where
       → HasValue p s q (refuses given)
   reached-none-as q r why given is e same =
       subst (λ (z : Refusal). HasValue p s q (refuses z)) (sym same) (reached-none q r why is e)
+
+  -- what a path was found to lead to
+  pub valued-path : (q : Param) (r : Reference) (v : Found) → q ≡ path r → HasValue p s (path r) (gives v)
+      → HasValue p s q (gives v)
+  valued-path q r v same has = subst (λ (z : Param). HasValue p s z (gives v)) (sym same) has

@@ -1,26 +1,27 @@
 -- Values that are written, escaped or not.
-use Rattle.std.proofs.Common.{◌≡◌, ◌≢◌, Bool, true, false, Option, Some, None, Ok, Err, sym, ap, subst}
+use Rattle.std.proofs.Common.{◌≡◌, ◌≢◌, Bool, true, false, List, Option, Some, None, Ok, Err, sym, ap, ap₂, subst}
 use Rattle.std.specs.Prelude.{unwrap_or}
 use Rattle.std.specs.declared.io.Error.{Error}
 use Rattle.handlebars_base.specs.Answers.{gives, refuses}
 use Rattle.handlebars_base.specs.Bytes.{Text}
-use Rattle.handlebars_base.specs.Outputs.{Held}
 use Rattle.handlebars_base.specs.Reasons.{out_of_memory}
 use Rattle.handlebars_base.specs.RenderRefusals.{reason_in, refusal_of}
-use Rattle.handlebars_base.specs.Scoped.{Found, present_in}
+use Rattle.handlebars_base.specs.Scoped.{Found, path_in, present_in}
 use Rattle.handlebars_base.specs.Shown.{escaped_if}
 use Rattle.handlebars_base.specs.declared.error.render_error.RenderError.{RenderError}
 use Rattle.handlebars_helpers.specs.Escaping.{Escaping, OwnEscape, HasEscaped, for_html, for_plain, by_own}
 use Rattle.handlebars_meaning.specs.Pieces.{of_value, of_raw}
 use Rattle.handlebars_meaning.specs.Questions.{escape_of}
-use Rattle.handlebars_meaning.specs.Sites.{Site}
+use Rattle.handlebars_meaning.specs.Sites.{Site, Whereabouts, whereabouts}
 use Rattle.handlebars_meaning.specs.State.{Setting, State}
 use Rattle.handlebars_meaning.specs.Steps.{ask}
+use Rattle.handlebars_meaning.specs.Told.{escaped_value, provenance, raw_value}
 use Rattle.handlebars_meaning.specs.Writing.{rendered_if_any, write_rendered, write_text, write_value}
 use Rattle.handlebars_render.specs.Boxed.{IsHandedOn}
-use Rattle.handlebars_render.specs.Shows.{entities_by}
-use Rattle.handlebars_render.specs.View.{Answered, CarriesOn, Moment}
-use Rattle.handlebars_render.specs.Writes.{Puts, TellsLine, Told}
+use Rattle.handlebars_render.specs.Shows.{entities_by, value_origin}
+use Rattle.handlebars_render.specs.Tells.{value_kind}
+use Rattle.handlebars_render.specs.View.{Answered, CarriesOn, Holding, Moment}
+use Rattle.handlebars_render.specs.Writes.{AnsweredLine, Puts, TellsLine}
 use Rattle.handlebars_render.proofs.Asked.{gives-ask, refuses-ask}
 use Rattle.handlebars_render.proofs.Carry.{at, carries_on-get, carries_on-handed, carries_on-no_value, carries_on-puts, carries_on-value}
 
@@ -42,10 +43,17 @@ no_entities for_html entities is = ap (λ (o : Option Bool). unwrap_or o true) i
 no_entities for_plain entities is = ap (λ (o : Option Bool). unwrap_or o true) is
 no_entities by_own entities is = ap (λ (o : Option Bool). unwrap_or o true) is
 
+-- what is told of a value's origin
+pub value-provenance : (site : Site) (v : Found) (escapes : Bool) {w : Whereabouts} {path : Option (List Text)}
+    → whereabouts site ≡ w → path_in v ≡ path
+    → provenance (value_origin site v escapes) ≡ record { kind = value_kind escapes; stands = w; path = path }
+value-provenance site v true at_site way = ap₂ (λ w p. record { kind = escaped_value; stands = w; path = p }) at_site way
+value-provenance site v false at_site way = ap₂ (λ w p. record { kind = raw_value; stands = w; path = p }) at_site way
+
 module _ (p : Setting) (may : Error → Type 0) (site : Site) (v : Found) where
-  shows_known : (entities escapes : Bool) {s next : State} {h new : Held} {r : Answered}
+  shows_known : (entities escapes : Bool) {s next : State} {h new : Holding} {r : Answered}
       → Some entities ≡ entities_by p.parts.escape escapes
-      → Puts (escaped_if entities (rendered_if_any (present_in v))) may (at s h) r (at next new)
+      → Puts (value_origin site v escapes) (escaped_if entities (rendered_if_any (present_in v))) may (at s h) r (at next new)
       → CarriesOn p (write_rendered site v escapes) may (at s h) r (at next new)
   shows_known entities true is puts =
       let t = rendered_if_any (present_in v) in
@@ -55,34 +63,34 @@ module _ (p : Setting) (may : Error → Type 0) (site : Site) (v : Found) where
   shows_known entities false {s = s} {next = next} {h = h} {new = new} {r = r} is puts =
       let t = rendered_if_any (present_in v) in
       carries_on-puts p may (of_raw site v) t
-      (subst (λ (b : Bool). Puts (escaped_if b t) may (at s h) r (at next new)) (no_entities p.parts.escape entities is) puts)
+      (subst (λ (b : Bool). Puts (of_raw site v) (escaped_if b t) may (at s h) r (at next new)) (no_entities p.parts.escape entities is) puts)
 
-  value_known : (entities : Bool) (t : Text) {s next : State} {h new : Held} {r : Answered}
+  value_known : (entities : Bool) (t : Text) {s next : State} {h new : Holding} {r : Answered}
       → Some entities ≡ entities_by p.parts.escape s.escapes → rendered_if_any (present_in v) ≡ t
-      → Puts (escaped_if entities t) may (at s h) r (at next new)
+      → Puts (value_origin site v s.escapes) (escaped_if entities t) may (at s h) r (at next new)
       → CarriesOn p (write_value site v) may (at s h) r (at next new)
   value_known entities t {s = s} {next = next} {h = h} {new = new} {r = r} is same puts =
       carries_on-get p may (λ z. write_rendered site v z.escapes) (shows_known entities s.escapes is
-      (subst (λ (z : Text). Puts (escaped_if entities z) may (at s h) r (at next new)) (sym same) puts))
+      (subst (λ (z : Text). Puts (value_origin site v s.escapes) (escaped_if entities z) may (at s h) r (at next new)) (sym same) puts))
 
   -- a value that is written with entities or without
-  pub shows_by : (entities : Bool) (t : Text) (r : Told) (s : State) (h new : Held)
+  pub shows_by : (entities : Bool) (t : Text) (r : AnsweredLine) (s : State) (h new : Holding)
       → Some entities ≡ entities_by p.parts.escape s.escapes → rendered_if_any (present_in v) ≡ t
-      → TellsLine (Puts (escaped_if entities t) may) (at s h) r new
+      → TellsLine (Puts (value_origin site v s.escapes) (escaped_if entities t) may) (at s h) r new
       → TellsLine (CarriesOn p (write_value site v) may) (at s h) r new
   shows_by entities t (Ok line) s h new is same puts = value_known entities t is same puts
   shows_by entities t (Err e) s h new is same puts = value_known entities t is same puts
 
   -- ---- by an escape function of one's own
 
-  asks_own : {s : State} {h : Held} {after : Moment} {r : Answered} → s.escapes ≡ true
+  asks_own : {s : State} {h : Holding} {after : Moment} {r : Answered} → s.escapes ≡ true
       → CarriesOn p (write_rendered site v true) may (at s h) r after → CarriesOn p (write_value site v) may (at s h) r after
   asks_own {s = s} {h = h} {after = after} {r = r} on a = carries_on-get p may (λ z. write_rendered site v z.escapes)
       (subst (λ (b : Bool). CarriesOn p (write_rendered site v b) may (at s h) r after) (sym on) a)
 
   module _ (t : Text) (own : by_own ≡ p.parts.escape) (same : rendered_if_any (present_in v) ≡ t) where
-    own_text : (x : Text) {s next : State} {h new : Held} {r : Answered} → s.escapes ≡ true
-        → p.parts.own_escape t (gives x) → Puts x may (at s h) r (at next new)
+    own_text : (x : Text) {s next : State} {h new : Holding} {r : Answered} → s.escapes ≡ true
+        → p.parts.own_escape t (gives x) → Puts (of_value site v) x may (at s h) r (at next new)
         → CarriesOn p (write_value site v) may (at s h) r (at next new)
     own_text x on has puts =
         let of = rendered_if_any (present_in v) in
@@ -93,14 +101,14 @@ module _ (p : Setting) (may : Error → Type 0) (site : Site) (v : Found) where
         (carries_on-puts p may (of_value site v) x puts))
 
     -- what it answers is written
-    pub shows_own : (x : Text) (r : Told) (s : State) (h new : Held) → s.escapes ≡ true
-        → p.parts.own_escape t (gives x) → TellsLine (Puts x may) (at s h) r new
+    pub shows_own : (x : Text) (r : AnsweredLine) (s : State) (h new : Holding) → s.escapes ≡ true
+        → p.parts.own_escape t (gives x) → TellsLine (Puts (of_value site v) x may) (at s h) r new
         → TellsLine (CarriesOn p (write_value site v) may) (at s h) r new
     shows_own x (Ok line) s h new on has puts = own_text x on has puts
     shows_own x (Err e) s h new on has puts = own_text x on has puts
 
     -- and what it refuses, is refused
-    pub shows_refused : (e d : RenderError) {s : State} {h : Held} → s.escapes ≡ true → IsHandedOn e d
+    pub shows_refused : (e d : RenderError) {s : State} {h : Holding} → s.escapes ≡ true → IsHandedOn e d
         → (reason_in e ≢ out_of_memory → p.parts.own_escape t (refuses (refusal_of e)))
         → TellsLine (CarriesOn p (write_value site v) may) (at s h) (Err d) h
     shows_refused e d on handed is =

@@ -3,7 +3,6 @@ use Rattle.std.proofs.Common.{◌≡◌, ◌≢◌, ℕ, List, [], ◌∷◌, No
 use Rattle.std.specs.declared.io.Error.{Error}
 use Rattle.handlebars_base.specs.Answers.{gives, refuses, IsRefusal}
 use Rattle.handlebars_base.specs.Bytes.{Text}
-use Rattle.handlebars_base.specs.Outputs.{Held}
 use Rattle.handlebars_base.specs.Reasons.{Refusal, block_content_required, out_of_memory}
 use Rattle.handlebars_base.specs.RenderRefusals.{plain_refusal, reason_in, refusal_of}
 use Rattle.handlebars_base.specs.declared.error.render_error.RenderError.{RenderError}
@@ -22,7 +21,7 @@ use Rattle.std.specs.Result.{IsErrAnd}
 use Rattle.handlebars_render.specs.Boxed.{IsHandedOn, answer_of, error_of}
 use Rattle.handlebars_render.specs.declared.boxed.BoxedError.{BoxedError}
 use Rattle.handlebars_render.specs.Silent.{Does, Evals, decorate_as, decorate_tag}
-use Rattle.handlebars_render.specs.View.{Answered, CarriesOn, goes_on, is_over}
+use Rattle.handlebars_render.specs.View.{Answered, CarriesOn, Holding, goes_on, is_over}
 use Rattle.handlebars_render.proofs.Asked.{refuses-ask, refuses-bind}
 use Rattle.handlebars_render.proofs.Carry.{at, carries-no_value, handed-refusal, refuses-handed}
 
@@ -125,13 +124,13 @@ module _ (p : Setting) where
       (subst (λ (ds : List Deed). Runs p (do_deeds b ds k) now ps o) (sym is) r)
 
 -- what is done is carried out, and the output holds what it held
-pub carries_on-does : (p : Setting) (may : Error → Type 0) (m : Prog (Unit {0})) {s next : State} {h : Held} (r : Answered)
+pub carries_on-does : (p : Setting) (may : Error → Type 0) (m : Prog (Unit {0})) {s next : State} {h : Holding} (r : Answered)
     → Does p m s r next → CarriesOn p m may (at s h) r (at next h)
 carries_on-does p may m (Ok u) d = goes_on (λ k r last c. record {
   pieces = c.pieces;
   outcome = c.outcome;
   runs = d k c.pieces c.outcome c.runs;
-  text = c.text;
+  gains = c.gains;
   tells = c.tells;
 })
 carries_on-does p may m (Err e) d = is_over (λ k. carries-no_value p may m k e d)

@@ -4,14 +4,14 @@ use Rattle.handlebars_render.specs.View.{IsSame}
 use Rattle.handlebars_render.specs.declared.sink.Sink.{Sink}
 use Rattle.handlebars_render.specs.declared.sink.Sink.TheVariants.{Out, Ahead}
 
-pub same-refl : {O : Type 0} (a : Sink O) → IsSame a a
-same-refl (Out a) = refl
+pub same-refl : {O T : Type 0} (a : Sink O T) → IsSame a a
+same-refl (Out a x) = refl
 same-refl (Ahead a) = refl
 
-pub same-trans : {O : Type 0} (a b c : Sink O) → IsSame a b → IsSame b c → IsSame a c
-same-trans (Out a) (Out b) (Out c) x y = y ∙ x
-same-trans (Out a) (Out b) (Ahead c) x y = y
-same-trans (Out a) (Ahead b) c x y = absurd x
-same-trans (Ahead a) (Out b) c x y = absurd x
-same-trans (Ahead a) (Ahead b) (Out c) x y = y
-same-trans (Ahead a) (Ahead b) (Ahead c) x y = y ∙ x
+pub same-trans : {O T : Type 0} (a b c : Sink O T) → IsSame a b → IsSame b c → IsSame a c
+same-trans (Out a x) (Out b y) (Out c z) first second = second ∙ first
+same-trans (Out a x) (Out b y) (Ahead c) first second = second
+same-trans (Out a x) (Ahead b) c first second = absurd first
+same-trans (Ahead a) (Out b y) c first second = absurd first
+same-trans (Ahead a) (Ahead b) (Out c z) first second = second
+same-trans (Ahead a) (Ahead b) (Ahead c) first second = second ∙ first

@@ -12,7 +12,6 @@ use Rattle.handlebars_template.specs.TreeView.{call_view, binding_of, binding_vi
 use Rattle.handlebars_template.specs.declared.template.tree.BlockParam.{BlockParam}
 use Rattle.handlebars_template.specs.declared.template.tree.HelperTemplate.{HelperTemplate, out-HelperTemplate}
 use Rattle.handlebars_template.proofs.Levels.{call_binding-view}
-use Rattle.handlebars_base.specs.Outputs.{Held}
 use Rattle.handlebars_scope.specs.Scopes.{Frame}
 use Rattle.handlebars_meaning.specs.Sites.{as_turn, body_at, Site}
 use Rattle.handlebars_helpers.specs.CallView.{HelperView}
@@ -23,7 +22,7 @@ use Rattle.handlebars_meaning.specs.Steps.{Steps, ◌>>◌}
 use Rattle.handlebars_render.specs.Boxed.{answer_of, error_of}
 use Rattle.handlebars_render.specs.declared.boxed.BoxedError.{BoxedError}
 use Rattle.handlebars_render.specs.declared.context.RenderContext.{RenderContext}
-use Rattle.handlebars_render.specs.View.{IsKept, NearestBelow, state_of, without_partials, Moment, Answered, CarriesOn, goes_on, is_over, CarriesOut}
+use Rattle.handlebars_render.specs.View.{Answered, CarriesOn, CarriesOut, Holding, IsKept, Moment, NearestBelow, goes_on, is_over, state_of, without_partials}
 use Rattle.handlebars_render.proofs.Carry.{at, carries_on-changed, carries_on-out_of_memory}
 
 -- ---- the names that a tag binds
@@ -99,7 +98,7 @@ module _ (p : Setting) (may : Error → Type 0) where
 
   -- a turn for which there is no memory
   pub turns-no_memory : (site : Site) (i : ℕ) (h : HelperView) (path : Option (List Text)) (all : List Turn) (t : Turn)
-      {rest more : List Turn} {first : Moment} {s next : State} {held : Held} (r : Result (Unit {0}) BoxedError)
+      {rest more : List Turn} {first : Moment} {s next : State} {held : Holding} (r : Result (Unit {0}) BoxedError)
       → rest ≡ t ∷ more → TurnsLeft site i h path all rest first (at s held)
       → IsErrAnd r (λ e. reason_in (error_of e) ≡ out_of_memory)
       → CarriesOn p (take_turns site 0 h path all) may first (answer_of r) (at next held)
@@ -118,8 +117,8 @@ module _ (p : Setting) (may : Error → Type 0) where
 
   -- a turn: the nearest block is set up, and then the body is rendered
   pub carries_on-turn : (site : Site) (i : ℕ) (h : HelperView) (path : Option (List Text)) (t : Turn)
-      {s mid : State} {held : Held} {after : Moment} {r : Answered}
-      → mid ≡ with_nearest (turn_frame path h.binding t) s → CarriesOn p (render_branch (body_at site (as_turn i)) h.body) may (at mid held) r after
+      {s mid : State} {held : Holding} {after : Moment} {r : Answered}
+      → mid ≡ with_nearest (turn_frame path h.binding t) s → CarriesOn p (render_branch (body_at site (as_turn i t.index)) h.body) may (at mid held) r after
       → CarriesOn p (take_turn site i h path t) may (at s held) r after
   carries_on-turn site i h path t is c =
-      carries_on-changed p may (with_nearest (turn_frame path h.binding t)) (render_branch (body_at site (as_turn i)) h.body) is c
+      carries_on-changed p may (with_nearest (turn_frame path h.binding t)) (render_branch (body_at site (as_turn i t.index)) h.body) is c

@@ -15,14 +15,15 @@ use Rattle.handlebars_helpers.specs.Decoration.{DecoratorView}
 use Rattle.handlebars_meaning.specs.Inclusion.{inclusion_block, pair_values}
 use Rattle.handlebars_meaning.specs.Including.{base_value}
 use Rattle.handlebars_meaning.specs.State.{Setting, State, nearest_variables}
+use Rattle.handlebars_render.specs.declared.ahead.Kept.{Kept}
 use Rattle.handlebars_render.specs.declared.inclusion.LentBlock.{LentBlock}
 use Rattle.handlebars_render.specs.View.{Within, GivesValue, RefusesValue}
 
--- within one more inclusion: so many are being rendered, with this text kept, or none, and under this indentation; these
--- bases are lent
-abbrev pub included : ℕ → Option (Bor Text) → Option Text → List (Option Data) → Within
-included count text indent bases =
-    record { text = option_map (λ t. t.now) text; inclusions = count; indent = indent; bases = bases }
+-- within one more inclusion: so many are being rendered, with this kept, or nothing, and under this indentation; these bases
+-- are lent
+abbrev pub included : ℕ → Option (Bor Kept) → Option Text → List (Option Data) → Within
+included count kept indent bases =
+    record { kept = option_map (λ k. k.now) kept; inclusions = count; indent = indent; bases = bases }
 
 -- a block with the value that is lent to it as its base, if one is
 abbrev pub lent_frame : LentBlock → Frame

@@ -3,12 +3,12 @@ use Rattle.std.specs.Prelude.{Result, Ok, Err}
 use Rattle.std.specs.declared.io.Error.{Error}
 use denote.MutBor.{MutBor}
 use denote.Triple.Both.{Both}
-use Rattle.handlebars_base.specs.Outputs.{Held}
 use Rattle.handlebars_base.specs.declared.error.render_error.RenderError.{RenderError}
 use Rattle.handlebars_meaning.specs.State.{Parts, Setting, State}
 use Rattle.handlebars_meaning.specs.Steps.{Steps, Prog}
 use Rattle.handlebars_render.specs.Boxed.{answer_of}
-use Rattle.handlebars_render.specs.View.{Answered, CarriesOn, CarriesOut, IsKept, IsSame, KeptIn, Moment, held_in, moment, setting_in, state_with, within}
+use Rattle.handlebars_render.specs.View.{Answered, CarriesOn, CarriesOut, Holding, IsKept, IsSame, Keeps, KeptIn, Moment, held_in, moment, setting_in, state_with, within}
+use Rattle.handlebars_render.specs.Ways.{Way}
 use Rattle.handlebars_render.specs.declared.boxed.BoxedError.{BoxedError}
 use Rattle.handlebars_render.specs.declared.context.RenderContext.{RenderContext}
 use Rattle.handlebars_render.specs.declared.environment.Environment as declared
@@ -27,30 +27,31 @@ Between parts x rc says =
     (kept : KeptIn (within x)) → says (setting_in parts x) (state_with kept rc.entry.now) (state_with kept rc.exit.now)
 
 -- Said of the moment before a call, and of what the output holds behind it.
-abbrev pub AtMoment : {P O : Type 0} → (O → Held) → declared.Environment P → RenderContext
-    → Both (MutBor (Sink O)) (MutBor (Sink O)) → (Moment → Held → Type 0) → Type 0
-AtMoment held x rc sink says =
-    (kept : KeptIn (within x)) → says (moment kept rc (held_in held sink.entry.now)) (held_in held sink.exit.now)
+abbrev pub AtMoment : {P O T : Type 0} → Way O → declared.Environment P → RenderContext
+    → Both (MutBor (Sink O T)) (MutBor (Sink O T)) → (Moment → Holding → Type 0) → Type 0
+AtMoment w x rc sink says =
+    (kept : KeptIn (within x)) → says (moment kept rc (held_in w sink.entry.now)) (held_in w sink.exit.now)
 
 -- ---- what the calls say that render
 
 -- The program was carried out, with these pieces kept.
-abbrev pub CarriesWith : {P O : Type 0} → (P → Parts) → (O → Held) → (Error → Type 0) → (x : declared.Environment P)
-    → Both (MutBor RenderContext) (MutBor RenderContext) → Both (MutBor (Sink O)) (MutBor (Sink O))
+abbrev pub CarriesWith : {P O T : Type 0} → (P → Parts) → Way O → (x : declared.Environment P)
+    → Both (MutBor RenderContext) (MutBor RenderContext) → Both (MutBor (Sink O T)) (MutBor (Sink O T))
     → Result (Unit {0}) BoxedError → KeptIn (within x) → Prog (Unit {0}) → Type 0
-CarriesWith parts held may x rc sink r kept m =
-    CarriesOn (setting_in parts x) m may (moment kept rc.entry.now (held_in held sink.entry.now)) (answer_of r)
-    (moment kept rc.exit.now (held_in held sink.exit.now))
+CarriesWith parts w x rc sink r kept m =
+    CarriesOn (setting_in parts x) m w.may_give (moment kept rc.entry.now (held_in w sink.entry.now)) (answer_of r)
+    (moment kept rc.exit.now (held_in w sink.exit.now))
 
 -- The program was carried out, whatever the pieces are that are kept.
-abbrev pub Carries : {P O : Type 0} → (P → Parts) → (O → Held) → (Error → Type 0) → declared.Environment P
-    → Both (MutBor RenderContext) (MutBor RenderContext) → Both (MutBor (Sink O)) (MutBor (Sink O))
+abbrev pub Carries : {P O T : Type 0} → (P → Parts) → Way O → declared.Environment P
+    → Both (MutBor RenderContext) (MutBor RenderContext) → Both (MutBor (Sink O T)) (MutBor (Sink O T))
     → Result (Unit {0}) BoxedError → Prog (Unit {0}) → Type 0
-Carries parts held may x rc sink r m = (kept : KeptIn (within x)) → CarriesWith parts held may x rc sink r kept m
+Carries parts w x rc sink r m =
+    (kept : KeptIn (within x)) → Keeps w.asks kept → CarriesWith parts w x rc sink r kept m
 
 -- The context is as it was but for what templates change, and it is the same output.
-pub record Stays {O : Type 0} (rc : Both (MutBor RenderContext) (MutBor RenderContext))
-    (sink : Both (MutBor (Sink O)) (MutBor (Sink O))) : Type 0 where
+pub record Stays {O T : Type 0} (rc : Both (MutBor RenderContext) (MutBor RenderContext))
+    (sink : Both (MutBor (Sink O T)) (MutBor (Sink O T))) : Type 0 where
   pub kept : IsKept rc.entry.now rc.exit.now
   pub same : IsSame sink.entry.now sink.exit.now
 
@@ -62,15 +63,15 @@ LeadsTo p may m before left (Ok x) after = (next : Unit {0} → Steps) (r : Answ
 LeadsTo p may m before left (Err e) after = CarriesOn p m may before (Err e) after
 
 -- With these pieces kept, the program leads to what is left of it.
-abbrev pub LeadsWith : {P O T : Type 0} → (P → Parts) → (O → Held) → (Error → Type 0) → (x : declared.Environment P)
-    → Both (MutBor RenderContext) (MutBor RenderContext) → Both (MutBor (Sink O)) (MutBor (Sink O))
-    → Result T BoxedError → KeptIn (within x) → Prog (Unit {0}) → (T → Prog (Unit {0})) → Type 0
-LeadsWith parts held may x rc sink r kept m left =
-    LeadsTo (setting_in parts x) may m (moment kept rc.entry.now (held_in held sink.entry.now)) left (answer_of r)
-    (moment kept rc.exit.now (held_in held sink.exit.now))
+abbrev pub LeadsWith : {P O T A : Type 0} → (P → Parts) → Way O → (x : declared.Environment P)
+    → Both (MutBor RenderContext) (MutBor RenderContext) → Both (MutBor (Sink O T)) (MutBor (Sink O T))
+    → Result A BoxedError → KeptIn (within x) → Prog (Unit {0}) → (A → Prog (Unit {0})) → Type 0
+LeadsWith parts w x rc sink r kept m left =
+    LeadsTo (setting_in parts x) w.may_give m (moment kept rc.entry.now (held_in w sink.entry.now)) left (answer_of r)
+    (moment kept rc.exit.now (held_in w sink.exit.now))
 
 -- It does, whatever the pieces are that are kept.
-abbrev pub Leads : {P O T : Type 0} → (P → Parts) → (O → Held) → (Error → Type 0) → declared.Environment P
-    → Both (MutBor RenderContext) (MutBor RenderContext) → Both (MutBor (Sink O)) (MutBor (Sink O))
-    → Result T BoxedError → Prog (Unit {0}) → (T → Prog (Unit {0})) → Type 0
-Leads parts held may x rc sink r m left = (kept : KeptIn (within x)) → LeadsWith parts held may x rc sink r kept m left
+abbrev pub Leads : {P O T A : Type 0} → (P → Parts) → Way O → declared.Environment P
+    → Both (MutBor RenderContext) (MutBor RenderContext) → Both (MutBor (Sink O T)) (MutBor (Sink O T))
+    → Result A BoxedError → Prog (Unit {0}) → (A → Prog (Unit {0})) → Type 0
+Leads parts w x rc sink r m left = (kept : KeptIn (within x)) → LeadsWith parts w x rc sink r kept m left

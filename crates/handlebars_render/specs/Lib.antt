@@ -1,3 +1,5 @@
+pub mod Ways
+pub mod PiecesView
 pub mod View
 pub mod Boxed
 pub mod Targets
@@ -6,6 +8,7 @@ pub mod Chosen
 pub mod Bound
 pub mod Shows
 pub mod Writes
+pub mod Tells
 pub mod OwnChoice
 pub mod Bare
 pub mod BlocksView

@@ -10,7 +10,6 @@ use Rattle.handlebars_base.specs.Values.{truth}
 use Rattle.handlebars_base.specs.declared.error.render_error.RenderError.{RenderError}
 use Rattle.handlebars_template.specs.Tree.{Call, path}
 use Rattle.handlebars_scope.specs.LineView.{line_of}
-use Rattle.handlebars_base.specs.Outputs.{Held}
 use Rattle.handlebars_meaning.specs.Pieces.{Piece}
 use Rattle.handlebars_meaning.specs.Sites.{Site}
 use Rattle.handlebars_helpers.specs.CallView.{CallView}
@@ -24,7 +23,7 @@ use Rattle.handlebars_meaning.specs.Runs.{Outcome, Runs}
 use Rattle.handlebars_meaning.specs.State.{Setting, State}
 use Rattle.handlebars_meaning.specs.Steps.{Steps, Prog}
 use Rattle.handlebars_meaning.specs.Values.{HasValue}
-use Rattle.handlebars_render.specs.View.{Moment, CarriesOn, GivesValue, RefusesValue, called_view, with_line}
+use Rattle.handlebars_render.specs.View.{Moment, CarriesOn, GivesValue, Holding, RefusesValue, called_view, with_line}
 use Rattle.handlebars_render.specs.Bound.{GoesTo, callee_in}
 use Rattle.handlebars_render.specs.Places.{IsThere, block_of, turns_at}
 use Rattle.handlebars_render.specs.declared.next.Next.{Next}
@@ -67,7 +66,7 @@ Settles p site block c m s (Err e) = reason_in e ≢ out_of_memory → RefusesVa
 -- The program is carried out up to the line behind it, or only the call is left of it, with nothing written, or it is
 -- over before its end.
 abbrev pub ComesTo : Setting → Site → Bool → Call → Prog (Unit {0}) → (Error → Type 0) → Moment → Result Next RenderError
-    → Held → Type 0
+    → Holding → Type 0
 ComesTo p site block c m may before (Ok (Done line)) held =
     CarriesOn p m may before (Ok tt) (record { state = with_line (line_of line) before.state; held = held })
 ComesTo p site block c m may before (Ok (Branch b)) held =

@@ -1,5 +1,5 @@
 -- What the code's values stand for, and what a call of it says of a run.
-use Rattle.std.specs.Prelude.{◌≡◌, ◌≢◌, ℕ, Option, None, ◌+◌, ◌^◌, ◌<◌, List, [], ◌∷◌, ◌++◌, option_map, unwrap_or, Result, Ok, Err, MatchResult, string_bytes, map, String, Bool, true, false}
+use Rattle.std.specs.Prelude.{◌≡◌, ◌≢◌, ℕ, Option, None, Some, ◌+◌, ◌-◌, ◌^◌, ◌<◌, List, [], ◌∷◌, ◌++◌, option_map, unwrap_or, Result, Ok, Err, MatchResult, string_bytes, map, String, Bool, true, false}
 use Rattle.std.specs.BTreeMap.{get_by_text}
 use Rattle.std.specs.Cow.{cow_str_bytes}
 use Rattle.std.specs.declared.alloc.Global.{Global}
@@ -24,11 +24,12 @@ use Rattle.handlebars_scope.specs.LineView.{line_of}
 use Rattle.handlebars_scope.specs.Contexts.{data_of}
 use Rattle.handlebars_scope.specs.Resolve.{resolve}
 use Rattle.handlebars_scope.specs.Scopes.{Frame, nothing_at}
-use Rattle.handlebars_base.specs.Outputs.{Held, held_of, write_reason}
-use Rattle.handlebars_base.specs.declared.output.StringOutput.{StringOutput}
+use Rattle.handlebars_base.specs.Outputs.{Held, write_reason}
 use Rattle.handlebars_scope.specs.Indentation.{written_in}
 use Rattle.handlebars_scope.specs.LineState.{LineState, line_behind}
 use Rattle.handlebars_meaning.specs.Pieces.{Piece, join}
+use Rattle.handlebars_meaning.specs.Sites.{Around, around, Site, TreeSite, Whereabouts, whereabouts}
+use Rattle.handlebars_meaning.specs.Told.{Told, told}
 use Rattle.handlebars_helpers.specs.CallView.{CallView}
 use Rattle.handlebars_helpers.specs.OwnView.{local_of}
 use Rattle.handlebars_helpers.specs.Turns.{StandsBelow}
@@ -41,6 +42,11 @@ use Rattle.handlebars_meaning.specs.Runs.{Fault, Outcome, Ended, Refused, Faulte
 use Rattle.handlebars_render.specs.BlocksView.{all_frames}
 use Rattle.handlebars_render.specs.declared.context.RenderContext.{RenderContext}
 use Rattle.handlebars_render.specs.declared.called.Called.{Called}
+use Rattle.handlebars_render.specs.PiecesView.{ahead_plain, ahead_told, kept_told, plain_text, spot_seen, template_seen, texts}
+use Rattle.handlebars_render.specs.Ways.{Way}
+use Rattle.handlebars_render.specs.declared.ahead.Ahead as declared_ahead
+use Rattle.handlebars_render.specs.declared.ahead.Kept.{Kept}
+use Rattle.handlebars_render.specs.declared.pieces.Standing.{Standing}
 use Rattle.handlebars_render.specs.declared.environment.Environment as declared
 use Rattle.handlebars_render.specs.declared.sink.Sink.{Sink}
 use Rattle.handlebars_render.specs.declared.sink.Sink.TheVariants.{Out, Ahead}
@@ -68,17 +74,17 @@ name_alone name = record { name = name; params = []; pairs = [] }
 
 -- ---- what holds within an inclusion
 
--- what the code has of it: the text that is kept for partial blocks, if there is one; how many inclusions are being
--- rendered; the indentation in force, if there is one; and what is lent to blocks of scope as their bases
+-- what the code has of it: what is kept for partial blocks, if anything is; how many inclusions are being rendered; the
+-- indentation in force, if there is one; and what is lent to blocks of scope as their bases
 pub record Within : Type 0 where
-  pub text : Option Text
+  pub kept : Option Kept
   pub inclusions : ℕ
   pub indent : Option Text
   pub bases : List (Option Data)
 
 abbrev pub within : {P : Type 0} → declared.Environment P → Within
 within x = record {
-  text = option_map (λ t. t.now) x.kept;
+  kept = option_map (λ k. k.now) x.kept;
   inclusions = x.inclusions;
   indent = option_map (λ t. t.now) x.indent;
   bases = bases_of x.bases.now;
@@ -86,15 +92,39 @@ within x = record {
 
 -- outside of every inclusion
 abbrev pub outside : Within
-outside = record { text = None; inclusions = 0; indent = None; bases = [] }
+outside = record { kept = None; inclusions = 0; indent = None; bases = [] }
 
--- The code has the newest text that is kept, and a state the pieces of all: these, whose newest text is that. And the
--- bases of blocks are lent, which a state has in the blocks.
+-- The code has what is kept newest, and a state the pieces of all. And the bases of blocks are lent, which a state has in the
+-- blocks.
 pub record KeptIn (w : Within) : Type 0 where
   pub pieces : KeptBlocks
   pub bases : List (Option Data)
-  pub holds : option_map join (newest pieces) ≡ w.text
   pub lent : bases ≡ w.bases
+
+-- These are the pieces that are kept newest: the code has their text, or each of them, where that is asked for.
+abbrev pub AreKept : Bool → Option (List Piece) → Option Kept → Type 0
+AreKept false ps k = option_map join ps ≡ option_map plain_text k
+AreKept true ps k = option_map (map told) ps ≡ option_map kept_told k
+
+abbrev pub Keeps : Bool → {w : Within} → KeptIn w → Type 0
+Keeps asks {w = w} kept = AreKept asks (newest kept.pieces) w.kept
+
+-- ---- where an element stands
+
+abbrev pub spot_in : {P : Type 0} → declared.Environment P → Whereabouts
+spot_in x = spot_seen x.spot.now
+
+-- The code knows where the element at the site stands, where that is asked for, and what is around a tree: another template
+-- perhaps, or all as it is.
+abbrev pub Stands : {P : Type 0} → Bool → declared.Environment P → Site → Type 0
+Stands asks x site = asks ≡ true → whereabouts site ≡ spot_in x
+
+abbrev pub StandsAs : {P : Type 0} → Bool → declared.Environment P → Standing → TreeSite → Type 0
+StandsAs asks x template at =
+    asks ≡ true → around at ≡ record { template = template_seen template; turns = (spot_in x).around.turns }
+
+abbrev pub StandsIn : {P : Type 0} → Bool → declared.Environment P → TreeSite → Type 0
+StandsIn asks x at = asks ≡ true → around at ≡ (spot_in x).around
 
 -- A context tells all of a state but what holds within an inclusion. This is its state outside of every one.
 abbrev pub state_of : RenderContext → State
@@ -175,34 +205,61 @@ abbrev pub NearestBelow : Option (List Text) → List Frame → Type 0
 NearestBelow path [] = Unit {0}
 NearestBelow path (f ∷ fs) = StandsBelow path f
 
+-- ---- outputs
+
+-- what an output holds: its text, how many of its writes have failed, and what it was told of pieces, where it is told of them
+pub record Holding : Type 0 where
+  pub text : Text
+  pub faults : ℕ
+  pub told : Option (List Told)
+
+-- what holds its text alone
+abbrev pub untold : Held → Holding
+untold h = record { text = h.text; faults = h.faults; told = None }
+
+-- what is told of each piece, and counts no refusals
+abbrev pub all_told : List Told → Holding
+all_told ts = record { text = texts ts; faults = 2 ^ 64 - 1; told = Some ts }
+
 -- the state of a run and what its output holds, at one moment
 pub record Moment : Type 0 where
   pub state : State
-  pub held : Held
+  pub held : Holding
 
-abbrev pub moment : {w : Within} → KeptIn w → RenderContext → Held → Moment
+abbrev pub moment : {w : Within} → KeptIn w → RenderContext → Holding → Moment
 moment kept rc held = record { state = state_with kept rc; held = held }
 
 -- a moment outside of every inclusion
 abbrev pub first_moment : RenderContext → Held → Moment
-first_moment rc held = record { state = state_of rc; held = held }
+first_moment rc held = record { state = state_of rc; held = untold held }
 
--- ---- outputs
+-- what was told, where that is asked for
+abbrev pub told_if : Bool → List Told → Option (List Told)
+told_if true ts = Some ts
+told_if false ts = None
 
--- A text that is rendered ahead counts no faults.
-abbrev pub held_ahead : StringOutput → Held
-held_ahead t = record { text = (held_of t).text; faults = 0 }
+-- what an output holds
+abbrev pub holding : {O : Type 0} → Way O → O → Holding
+holding w o = record { text = (w.held o).text; faults = (w.held o).faults; told = told_if w.asks (w.told o) }
+
+-- What is rendered ahead counts no faults. Its text is that of its pieces, where they are kept.
+abbrev pub ahead_text : Bool → declared_ahead.Ahead → Text
+ahead_text true a = texts (ahead_told a)
+ahead_text false a = ahead_plain a
+
+abbrev pub holding_ahead : Bool → declared_ahead.Ahead → Holding
+holding_ahead asks a = record { text = ahead_text asks a; faults = 0; told = told_if asks (ahead_told a) }
 
 -- what stands where is written now
-abbrev pub held_in : {O : Type 0} → (O → Held) → Sink O → Held
-held_in held (Out o) = held o.now
-held_in held (Ahead t) = held_ahead t.now
+abbrev pub held_in : {O T : Type 0} → Way O → Sink O T → Holding
+held_in w (Out o x) = holding w o.now
+held_in w (Ahead a) = holding_ahead w.asks a.now
 
 -- It is the same output, or the same text that is rendered ahead.
-abbrev pub IsSame : {O : Type 0} → Sink O → Sink O → Type 0
-IsSame (Out a) (Out b) = b.ghost_name ≡ a.ghost_name
-IsSame (Out a) (Ahead b) = ⊥
-IsSame (Ahead a) (Out b) = ⊥
+abbrev pub IsSame : {O T : Type 0} → Sink O T → Sink O T → Type 0
+IsSame (Out a x) (Out b y) = b.ghost_name ≡ a.ghost_name
+IsSame (Out a x) (Ahead b) = ⊥
+IsSame (Ahead a) (Out b y) = ⊥
 IsSame (Ahead a) (Ahead b) = b.ghost_name ≡ a.ghost_name
 
 -- ---- what calls say
@@ -237,14 +294,24 @@ pub data Tells (may : Error → Type 0) (before after : ℕ) : Outcome → Answe
   no_memory : {s : State} {e : RenderError} → after ≡ before → reason_in e ≡ out_of_memory
       → Tells may before after NoMemory (Err e) s
 
--- The steps were carried out from one moment to another: the output has gained the text of their pieces, and the result
--- and the next state tell the outcome.
+-- pieces that are told behind others, where they are told
+abbrev pub telling : List Piece → Option (List Told) → Option (List Told)
+telling ps None = None
+telling ps (Some ts) = Some (ts ++ map told ps)
+
+-- An output has gained the text of pieces, and was told of each, in order, where it is told of them.
+pub record Gains (before : Holding) (ps : List Piece) (after : Holding) : Type 0 where
+  pub text : after.text ≡ before.text ++ join ps
+  pub told : after.told ≡ telling ps before.told
+
+-- The steps were carried out from one moment to another: the output has gained their pieces, and the result and the next
+-- state tell the outcome.
 pub record CarriesOut (p : Setting) (k : Steps) (may : Error → Type 0) (before : Moment) (r : Answered) (after : Moment)
     : Type 0 where
   pub pieces : List Piece
   pub outcome : Outcome
   pub runs : Runs p k before.state pieces outcome
-  pub text : after.held.text ≡ before.held.text ++ join pieces
+  pub gains : Gains before.held pieces after.held
   pub tells : Tells may before.held.faults after.held.faults outcome r after.state
 
 -- The program was carried out: what comes next is carried out from the moment behind it, or never.
@@ -258,16 +325,16 @@ pub data CarriesOn (p : Setting) (m : Prog (Unit {0})) (may : Error → Type 0) 
       → ((next : Unit {0} → Steps) → CarriesOut p (m next) may before (Err e) after)
       → CarriesOn p m may before (Err e) after
 
--- The program was carried out that has pieces for its value, of which the code has the text.
-pub data CarriesAhead (p : Setting) (m : Prog (List Piece)) (may : Error → Type 0) (before : Moment)
-    : Result (String Global) RenderError → Moment → Type 0 where
-  has_text : {text : String Global} {after : Moment} (ps : List Piece) → string_bytes text ≡ join ps
+-- The program was carried out that has pieces for its value, which the code keeps.
+pub data CarriesAhead (asks : Bool) (p : Setting) (m : Prog (List Piece)) (may : Error → Type 0) (before : Moment)
+    : Result Kept RenderError → Moment → Type 0 where
+  has_kept : {k : Kept} {after : Moment} (ps : List Piece) → AreKept asks (Some ps) (Some k)
       → ((next : List Piece → Steps) (r : Answered) (last : Moment)
       → CarriesOut p (next ps) may after r last → CarriesOut p (m next) may before r last)
-      → CarriesAhead p m may before (Ok text) after
-  no_text : {e : RenderError} {after : Moment}
+      → CarriesAhead asks p m may before (Ok k) after
+  has_none : {e : RenderError} {after : Moment}
       → ((next : List Piece → Steps) → CarriesOut p (m next) may before (Err e) after)
-      → CarriesAhead p m may before (Err e) after
+      → CarriesAhead asks p m may before (Err e) after
 
 -- What a call that is asked something says: its value is the answer, or it is refused as that is, or for want of memory.
 abbrev pub Yields : {T A : Type 0} → Asks A → (T → A) → Result T RenderError → Type 0

@@ -22,7 +22,7 @@ ghost use Rattle.handlebars_render.specs.Judgement.{Carries, CarriesWith, Stays}
 ghost use Rattle.handlebars_render.specs.Nodes.{IsNodeAt};
 ghost use Rattle.handlebars_render.specs.Places.{IsThere, block_of, turns_at};
 ghost use Rattle.handlebars_render.specs.Targets.{ChoosesFor};
-ghost use Rattle.handlebars_render.specs.View.{IsKept, KeptIn, called_view, setting_in, state_of, state_with, within, HasNodes};
+ghost use Rattle.handlebars_render.specs.View.{HasNodes, IsKept, Keeps, KeptIn, Stands, StandsIn, called_view, setting_in, state_of, state_with, within};
 
 use crate::bound::BoundCall;
 use crate::boxed::BoxedError;
@@ -33,10 +33,10 @@ use crate::environment::Environment;
 use crate::next::{Next, settle_tag};
 use crate::registered::Registered;
 use crate::sink::Sink;
+use crate::telling::Telling;
 use crate::steps::take_steps;
 use crate::tree::render_tree;
 use handlebars_base::json::value::Json;
-use handlebars_base::output::Output;
 use handlebars_helpers::each_turns::Turns;
 use handlebars_helpers::turn::Base;
 use handlebars_scope::block::BlockContext;
@@ -45,15 +45,15 @@ use handlebars_template::template::{HelperTemplate, Template};
 
 /// Renders a block, or an expression: a value is written, or a helper is called.
 #[cycle(render)]
-pub fn render_tag<'a, O: Output, P: Registered>(
+pub fn render_tag<'a, O, T: Telling<O>, P: Registered>(
     helper: &'a HelperTemplate,
     environment: &Environment<'_, 'a, P>,
     block: bool,
     rc: &mut RenderContext,
-    sink: &mut Sink<'_, O>,
+    sink: &mut Sink<'_, O, T>,
 ) -> Result<(), BoxedError>
     requires nodes { HasNodes environment.now rc.old }
-    ensures renders { (site : Site) → Carries P.parts O.held O.may_give environment.now rc sink result
+    ensures renders { (site : Site) → Stands T.way.asks environment.now site → Carries P.parts T.way environment.now rc sink result
         (render_tag site block (call_view helper.now)) }
     ensures stays { Stays rc sink }
 {
@@ -73,18 +73,18 @@ pub fn render_tag<'a, O: Output, P: Registered>(
 
 // Renders the body of a call, or its inverse, in the bracket of the call.
 #[cycle(render)]
-fn render_branch<'a, O: Output, P: Registered>(
+fn render_branch<'a, O, T: Telling<O>, P: Registered>(
     helper: &'a HelperTemplate,
     environment: &Environment<'_, 'a, P>,
     truth: bool,
     rc: &mut RenderContext,
-    sink: &mut Sink<'_, O>,
+    sink: &mut Sink<'_, O, T>,
 ) -> Result<(), BoxedError>
     requires nodes { HasNodes environment.now rc.old }
-    ensures renders { (site : Site) (block : Bool) (target : calls.Target) (v : CallView) (kept : KeptIn (within environment.now))
-        → HasChoice (setting_in P.parts environment.now) (state_with kept rc.old) target
+    ensures renders { (site : Site) → Stands T.way.asks environment.now site → (block : Bool) (target : calls.Target) (v : CallView) (kept : KeptIn (within environment.now))
+        → Keeps T.way.asks kept → HasChoice (setting_in P.parts environment.now) (state_with kept rc.old) target
         (view_with_bodies block (call_view helper.now) v) (gives (body_if truth))
-        → CarriesWith P.parts O.held O.may_give environment.now rc sink result kept
+        → CarriesWith P.parts T.way environment.now rc sink result kept
         (render_helped site block (call_view helper.now) target v) }
     ensures stays { Stays rc sink }
 {
@@ -100,19 +100,19 @@ fn render_branch<'a, O: Output, P: Registered>(
 // `render_tag`, of which nested branches take little of the stack.
 #[inline(never)]
 #[cycle(render)]
-fn call_each<'a, O: Output, P: Registered>(
+fn call_each<'a, O, T: Telling<O>, P: Registered>(
     helper: &'a HelperTemplate,
     environment: &Environment<'_, 'a, P>,
     place: Box<Place<'a>>,
     rc: &mut RenderContext,
-    sink: &mut Sink<'_, O>,
+    sink: &mut Sink<'_, O, T>,
 ) -> Result<(), BoxedError>
     requires nodes { HasNodes environment.now rc.old }
     requires node { IsThere (data_of environment.now.given.now) place.value }
-    ensures renders { (site : Site) (block : Bool) (target : calls.Target) (v : CallView) (kept : KeptIn (within environment.now))
-        → HasChoice (setting_in P.parts environment.now) (state_with kept rc.old) target
+    ensures renders { (site : Site) → Stands T.way.asks environment.now site → (block : Bool) (target : calls.Target) (v : CallView) (kept : KeptIn (within environment.now))
+        → Keeps T.way.asks kept → HasChoice (setting_in P.parts environment.now) (state_with kept rc.old) target
         (view_with_bodies block (call_view helper.now) v) (gives (turns_at place.entry.value))
-        → CarriesWith P.parts O.held O.may_give environment.now rc sink result kept
+        → CarriesWith P.parts T.way environment.now rc sink result kept
         (render_helped site block (call_view helper.now) target v) }
     ensures stays { Stays rc sink }
 {
@@ -136,19 +136,19 @@ fn call_each<'a, O: Output, P: Registered>(
 // of `render_tag` too.
 #[inline(never)]
 #[cycle(render)]
-fn call_with<'a, O: Output, P: Registered>(
+fn call_with<'a, O, T: Telling<O>, P: Registered>(
     helper: &'a HelperTemplate,
     environment: &Environment<'_, 'a, P>,
     place: Box<Place<'a>>,
     rc: &mut RenderContext,
-    sink: &mut Sink<'_, O>,
+    sink: &mut Sink<'_, O, T>,
 ) -> Result<(), BoxedError>
     requires nodes { HasNodes environment.now rc.old }
     requires node { IsThere (data_of environment.now.given.now) place.value }
-    ensures renders { (site : Site) (block : Bool) (target : calls.Target) (v : CallView) (kept : KeptIn (within environment.now))
-        → HasChoice (setting_in P.parts environment.now) (state_with kept rc.old) target
+    ensures renders { (site : Site) → Stands T.way.asks environment.now site → (block : Bool) (target : calls.Target) (v : CallView) (kept : KeptIn (within environment.now))
+        → Keeps T.way.asks kept → HasChoice (setting_in P.parts environment.now) (state_with kept rc.old) target
         (view_with_bodies block (call_view helper.now) v) (gives (block_of place.entry.value))
-        → CarriesWith P.parts O.held O.may_give environment.now rc sink result kept
+        → CarriesWith P.parts T.way environment.now rc sink result kept
         (render_helped site block (call_view helper.now) target v) }
     ensures stays { Stays rc sink }
 {
@@ -174,20 +174,20 @@ fn part_if(helper: &HelperTemplate, truth: bool) -> Option<&Template>
 
 // Calls a helper, in the bracket of a call: there the line takes note of what is written.
 #[cycle(render)]
-fn render_call<'a, O: Output, P: Registered>(
+fn render_call<'a, O, T: Telling<O>, P: Registered>(
     helper: &'a HelperTemplate,
     environment: &Environment<'_, 'a, P>,
     block: bool,
     bound: Box<BoundCall<'a>>,
     rc: &mut RenderContext,
-    sink: &mut Sink<'_, O>,
+    sink: &mut Sink<'_, O, T>,
 ) -> Result<(), BoxedError>
     requires nodes { HasNodes environment.now rc.old }
-    ensures renders { (site : Site) (target : calls.Target) (v : CallView) (kept : KeptIn (within environment.now))
-        → ChoosesFor (setting_in P.parts environment.now) (state_with kept rc.old) (callee_in bound.entry.value)
+    ensures renders { (site : Site) → Stands T.way.asks environment.now site → (target : calls.Target) (v : CallView) (kept : KeptIn (within environment.now))
+        → Keeps T.way.asks kept → ChoosesFor (setting_in P.parts environment.now) (state_with kept rc.old) (callee_in bound.entry.value)
         (view_with_bodies block (call_view helper.now) (called_view bound.entry.value.call)) target
         (view_with_bodies block (call_view helper.now) v)
-        → CarriesWith P.parts O.held O.may_give environment.now rc sink result kept
+        → CarriesWith P.parts T.way environment.now rc sink result kept
         (render_helped site block (call_view helper.now) target v) }
     ensures stays { Stays rc sink }
 {
@@ -203,20 +203,20 @@ fn render_call<'a, O: Output, P: Registered>(
 // has to be called.
 #[inline(never)]
 #[cycle(render)]
-fn render_chosen<'a, O: Output, P: Registered>(
+fn render_chosen<'a, O, T: Telling<O>, P: Registered>(
     helper: &'a HelperTemplate,
     environment: &Environment<'_, 'a, P>,
     block: bool,
     bound: Box<BoundCall<'a>>,
     rc: &mut RenderContext,
-    sink: &mut Sink<'_, O>,
+    sink: &mut Sink<'_, O, T>,
 ) -> Result<(), BoxedError>
     requires nodes { HasNodes environment.now rc.old }
-    ensures renders { (site : Site) (target : calls.Target) (v : CallView) (kept : KeptIn (within environment.now))
-        → ChoosesFor (setting_in P.parts environment.now) (state_with kept rc.old) (callee_in bound.entry.value)
+    ensures renders { (site : Site) → Stands T.way.asks environment.now site → (target : calls.Target) (v : CallView) (kept : KeptIn (within environment.now))
+        → Keeps T.way.asks kept → ChoosesFor (setting_in P.parts environment.now) (state_with kept rc.old) (callee_in bound.entry.value)
         (view_with_bodies block (call_view helper.now) (called_view bound.entry.value.call)) target
         (view_with_bodies block (call_view helper.now) v)
-        → CarriesWith P.parts O.held O.may_give environment.now rc sink result kept
+        → CarriesWith P.parts T.way environment.now rc sink result kept
         (render_chosen site target (view_with_bodies block (call_view helper.now) v)) }
     ensures stays { Stays rc sink }
 {
@@ -239,16 +239,16 @@ fn render_chosen<'a, O: Output, P: Registered>(
 
 // Renders what is left of a choice.
 #[cycle(render)]
-fn render_rest<'a, O: Output, P: Registered>(
+fn render_rest<'a, O, T: Telling<O>, P: Registered>(
     helper: &'a HelperTemplate,
     environment: &Environment<'_, 'a, P>,
     rest: ToRender,
     rc: &mut RenderContext,
-    sink: &mut Sink<'_, O>,
+    sink: &mut Sink<'_, O, T>,
 ) -> Result<(), BoxedError>
     requires nodes { HasNodes environment.now rc.old }
-    ensures renders { (site : Site) (block : Bool) (v : CallView)
-        → Carries P.parts O.held O.may_give environment.now rc sink result
+    ensures renders { (site : Site) → Stands T.way.asks environment.now site → (block : Bool) (v : CallView)
+        → Carries P.parts T.way environment.now rc sink result
         (render_rest site (view_with_bodies block (call_view helper.now) v) rest.entry) }
     ensures stays { Stays rc sink }
 {
@@ -295,14 +295,14 @@ fn node_at<'a, P: Registered>(
 
 /// A body or an inverse, where there is one.
 #[cycle(render)]
-pub fn render_part<'a, O: Output, P: Registered>(
+pub fn render_part<'a, O, T: Telling<O>, P: Registered>(
     part: Option<&'a Template>,
     environment: &Environment<'_, 'a, P>,
     rc: &mut RenderContext,
-    sink: &mut Sink<'_, O>,
+    sink: &mut Sink<'_, O, T>,
 ) -> Result<(), BoxedError>
     requires nodes { HasNodes environment.now rc.old }
-    ensures renders { (at : TreeSite) → Carries P.parts O.held O.may_give environment.now rc sink result
+    ensures renders { (at : TreeSite) → StandsIn T.way.asks environment.now at → Carries P.parts T.way environment.now rc sink result
         (render_branch at (part_view part.entry)) }
     ensures stays { Stays rc sink }
 {

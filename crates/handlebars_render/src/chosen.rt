@@ -19,7 +19,7 @@ ghost use Rattle.handlebars_render.specs.Chosen.{IsDone, render_rest};
 ghost use Rattle.handlebars_render.specs.Judgement.{Leads, LeadsTo, LeadsWith, Stays};
 ghost use Rattle.handlebars_render.specs.OwnChoice.{own_choice_of};
 ghost use Rattle.handlebars_render.specs.Targets.{ChoosesFor};
-ghost use Rattle.handlebars_render.specs.View.{KeptIn, held_in, setting_in, state_of, state_with, within, IsSame};
+ghost use Rattle.handlebars_render.specs.View.{IsSame, KeptIn, Stands, held_in, setting_in, state_of, state_with, within};
 
 use crate::bound::asked_name;
 use crate::boxed::BoxedError;
@@ -28,8 +28,8 @@ use crate::environment::Environment;
 use crate::own::{OwnChoice, choose_own};
 use crate::registered::Registered;
 use crate::sink::Sink;
+use crate::telling::Telling;
 use crate::write::{write_chosen, write_count, write_word};
-use handlebars_base::output::Output;
 use handlebars_helpers::choice::{Choice, choose};
 use handlebars_helpers::each_turns::Turns;
 use handlebars_helpers::own::{Callee, HelperStep};
@@ -56,7 +56,7 @@ pub enum ToRender<'v> {
 
 /// Asks a callee what it chooses for a call of this view, a helper of one's own by this name or else by that of the call, and
 /// does what needs no rendering.
-pub fn settle_choice<'v, O: Output, P: Registered>(
+pub fn settle_choice<'v, O, T: Telling<O>, P: Registered>(
     helper: &HelperTemplate,
     environment: &Environment<P>,
     block: bool,
@@ -64,13 +64,13 @@ pub fn settle_choice<'v, O: Output, P: Registered>(
     asked_by: &Option<CowStr>,
     view: &'v Helper,
     rc: &mut RenderContext,
-    sink: &mut Sink<'_, O>,
+    sink: &mut Sink<'_, O, T>,
 ) -> Result<ToRender<'v>, BoxedError>
-    ensures leads { (site : Site) (target : calls.Target) (v : CallView) (kept : KeptIn (within environment.now))
+    ensures leads { (site : Site) → Stands T.way.asks environment.now site → (target : calls.Target) (v : CallView) (kept : KeptIn (within environment.now))
         → ChoosesFor (setting_in P.parts environment.now) (state_with kept rc.old)
         (callee_of (unwrap_or (option_map cow_str_bytes asked_by.now) (helper_view view.now).call.name) callee)
         (helper_view view.now) target (view_with_bodies block (call_view helper.now) v)
-        → LeadsWith P.parts O.held O.may_give environment.now rc sink result kept
+        → LeadsWith P.parts T.way environment.now rc sink result kept
         (render_chosen site target (view_with_bodies block (call_view helper.now) v))
         (render_rest site (view_with_bodies block (call_view helper.now) v)) }
     ensures stays { Stays rc sink }
@@ -92,15 +92,15 @@ pub fn settle_choice<'v, O: Output, P: Registered>(
 }
 
 // What a built-in helper chose.
-fn settle_built<'v, O: Output, P: Registered>(
+fn settle_built<'v, O, T: Telling<O>, P: Registered>(
     helper: &HelperTemplate,
     environment: &Environment<P>,
     block: bool,
     choice: Choice<'v>,
     rc: &mut RenderContext,
-    sink: &mut Sink<'_, O>,
+    sink: &mut Sink<'_, O, T>,
 ) -> Result<ToRender<'v>, BoxedError>
-    ensures leads { (site : Site) (v : CallView) → Leads P.parts O.held O.may_give environment.now rc sink result
+    ensures leads { (site : Site) → Stands T.way.asks environment.now site → (v : CallView) → Leads P.parts T.way environment.now rc sink result
         (carry_out site (view_with_bodies block (call_view helper.now) v) (choice_of choice.entry))
         (render_rest site (view_with_bodies block (call_view helper.now) v)) }
     ensures stays { Stays rc sink }
@@ -125,14 +125,14 @@ fn settle_built<'v, O: Output, P: Registered>(
 }
 
 // What a helper of one's own chose.
-fn settle_own<'v, O: Output, P: Registered>(
+fn settle_own<'v, O, T: Telling<O>, P: Registered>(
     environment: &Environment<P>,
     choice: OwnChoice,
     rc: &mut RenderContext,
-    sink: &mut Sink<'_, O>,
+    sink: &mut Sink<'_, O, T>,
 ) -> Result<ToRender<'v>, BoxedError>
-    ensures leads { (site : Site) (block : Bool) (c : Call) (v : CallView)
-        → Leads P.parts O.held O.may_give environment.now rc sink result
+    ensures leads { (site : Site) → Stands T.way.asks environment.now site → (block : Bool) (c : Call) (v : CallView)
+        → Leads P.parts T.way environment.now rc sink result
         (carry_out site (view_with_bodies block c v) (own_choice_of choice)) (render_rest site (view_with_bodies block c v)) }
     ensures stays { Stays rc sink }
 {
@@ -158,20 +158,20 @@ pub fn block_at(
 }
 
 // A word is written; a block renders its body or its inverse by it.
-fn settle_word<'v, O: Output, P: Registered>(
+fn settle_word<'v, O, T: Telling<O>, P: Registered>(
     environment: &Environment<P>,
     block: bool,
     word: bool,
-    sink: &mut Sink<'_, O>,
+    sink: &mut Sink<'_, O, T>,
 ) -> Result<ToRender<'v>, BoxedError>
-    ensures leads { (site : Site) (c : Call) (v : CallView) (s : State)
-        → LeadsTo (setting_in P.parts environment.now) O.may_give (render_word site (view_with_bodies block c v) block word)
-        (record { state = s; held = held_in O.held sink.old }) (render_rest site (view_with_bodies block c v))
-        (answer_of result) (record { state = s; held = held_in O.held sink.new }) }
+    ensures leads { (site : Site) → Stands T.way.asks environment.now site → (c : Call) (v : CallView) (s : State)
+        → LeadsTo (setting_in P.parts environment.now) T.way.may_give (render_word site (view_with_bodies block c v) block word)
+        (record { state = s; held = held_in T.way sink.old }) (render_rest site (view_with_bodies block c v))
+        (answer_of result) (record { state = s; held = held_in T.way sink.new }) }
     ensures same { IsSame sink.old sink.new }
 {
     if !block {
-        return done(write_word(environment.alloc, word, sink));
+        return done(write_word(environment, word, sink));
     }
     if word {
         Ok(ToRender::Body)

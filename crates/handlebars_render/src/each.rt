@@ -1,53 +1,56 @@
 //! Rendering in blocks of scope.
 
-ghost use Rattle.std.specs.Prelude.{◌≡◌, ℕ, Bool, IfSome, List, Option, Some, option_map};
+ghost use Rattle.std.specs.Prelude.{◌≡◌, ◌++◌, ◌∷◌, [], ℕ, Bool, IfOk, IfSome, List, Option, Some, option_map};
 ghost use Rattle.serde_json.specs.Data.{Data};
 ghost use Rattle.serde_json.specs.View.{view};
 ghost use Rattle.handlebars_base.specs.Answers.{gives};
 ghost use Rattle.handlebars_base.specs.Bytes.{Text};
+ghost use Rattle.handlebars_template.specs.Tree.{call_body};
 ghost use Rattle.handlebars_template.specs.TreeView.{call_view};
 ghost use Rattle.handlebars_scope.specs.Bases.{IsNode};
 ghost use Rattle.handlebars_scope.specs.Contexts.{data_of};
 ghost use Rattle.handlebars_scope.specs.Resolve.{member_at};
 ghost use Rattle.handlebars_scope.specs.Scopes.{empty_frame};
 ghost use Rattle.handlebars_scope.specs.ScopeView.{frame_of};
-ghost use Rattle.handlebars_meaning.specs.Sites.{Site};
+ghost use Rattle.handlebars_meaning.specs.Sites.{Site, as_turn, body_at};
 ghost use Rattle.handlebars_helpers.specs.CallView.{CallView};
 ghost use Rattle.handlebars_helpers.specs.Turns.{turn_name};
 ghost use Rattle.handlebars_helpers.specs.View.{path_view, turn_view, turns_left};
-ghost use Rattle.handlebars_meaning.specs.CarryOut.{view_with_bodies, in_block, render_body, take_turns};
+ghost use Rattle.handlebars_meaning.specs.CarryOut.{in_block, render_body, render_branch, take_turns, view_with_bodies};
 ghost use Rattle.handlebars_render.specs.Judgement.{Carries, CarriesWith, Stays};
 ghost use Rattle.handlebars_render.specs.Nodes.{IsNodeAt, below};
-ghost use Rattle.handlebars_render.specs.View.{HasOuter, IsUnlent, KeptIn, within, IsSame, HasNodes};
+ghost use Rattle.handlebars_render.specs.View.{HasNodes, HasOuter, IsSame, IsUnlent, Keeps, KeptIn, Stands, within};
 
 use crate::block::render_part;
 use crate::boxed::BoxedError;
 use crate::context::RenderContext;
 use crate::environment::Environment;
+use crate::pieces::Spot;
 use crate::registered::Registered;
 use crate::sink::Sink;
+use crate::telling::Telling;
 use handlebars_base::json::value::Json;
-use handlebars_base::output::Output;
 use handlebars_helpers::each_turns::Turns;
 use handlebars_helpers::turn::Turn;
 use handlebars_scope::block::BlockContext;
 use handlebars_scope::context::bases::Bases;
 use handlebars_template::template::HelperTemplate;
+use std::alloc::{AllocError, Global};
 
 /// The body, in a block, of which this node is known, or none.
 #[cycle(render)]
-pub fn render_in<'a, O: Output, P: Registered>(
+pub fn render_in<'a, O, T: Telling<O>, P: Registered>(
     helper: &'a HelperTemplate,
     environment: &Environment<'_, 'a, P>,
     scope: BlockContext,
     node: Option<&'a Json>,
     rc: &mut RenderContext,
-    sink: &mut Sink<'_, O>,
+    sink: &mut Sink<'_, O, T>,
 ) -> Result<(), BoxedError>
     requires nodes { HasNodes environment.now rc.old }
     requires node { IsNode (data_of environment.now.given.now) (frame_of scope).base_path (option_map (λ v. view v.now) node) }
-    ensures renders { (site : Site) (i : ℕ) (block : Bool) (v : CallView)
-        → Carries P.parts O.held O.may_give environment.now rc sink result
+    ensures renders { (site : Site) → Stands T.way.asks environment.now site → (i : ℕ) (block : Bool) (v : CallView)
+        → Carries P.parts T.way environment.now rc sink result
         (in_block (frame_of scope) (render_body site i (view_with_bodies block (call_view helper.now) v))) }
     ensures stays { Stays rc sink }
 {
@@ -64,19 +67,19 @@ pub fn render_in<'a, O: Output, P: Registered>(
 
 /// The body for each member, in one block, over what has this path, if it has one, and this node, if that is known.
 #[cycle(render)]
-pub fn render_each<'a, O: Output, P: Registered>(
+pub fn render_each<'a, O, T: Telling<O>, P: Registered>(
     helper: &'a HelperTemplate,
     environment: &Environment<'_, 'a, P>,
     path: Option<&Vec<String>>,
     node: Option<&'a Json>,
     turns: Turns,
     rc: &mut RenderContext,
-    sink: &mut Sink<'_, O>,
+    sink: &mut Sink<'_, O, T>,
 ) -> Result<(), BoxedError>
     requires nodes { HasNodes environment.now rc.old }
     requires node { IsNodeAt (data_of environment.now.given.now) (path_view path) (option_map (λ v. view v.now) node) }
-    ensures renders { (site : Site) (block : Bool) (v : CallView)
-        → Carries P.parts O.held O.may_give environment.now rc sink result
+    ensures renders { (site : Site) → Stands T.way.asks environment.now site → (block : Bool) (v : CallView)
+        → Carries P.parts T.way environment.now rc sink result
         (in_block empty_frame (take_turns site 0 (view_with_bodies block (call_view helper.now) v) (path_view path.entry)
         (turns_left turns.entry))) }
     ensures stays { Stays rc sink }
@@ -95,19 +98,20 @@ pub fn render_each<'a, O: Output, P: Registered>(
 // The turns that are left, over what has this path, if it has one, and this node, if that is known. In each one the nearest
 // block, to which nothing but its node is lent, is set up for it, and the body is rendered.
 #[cycle(render)]
-fn take_turns<'a, O: Output, P: Registered>(
+fn take_turns<'a, O, T: Telling<O>, P: Registered>(
     helper: &'a HelperTemplate,
     environment: &Environment<'_, 'a, P>,
     path: Option<&Vec<String>>,
     node: Option<&'a Json>,
     turns: Turns,
     rc: &mut RenderContext,
-    sink: &mut Sink<'_, O>,
+    sink: &mut Sink<'_, O, T>,
 ) -> Result<(), BoxedError>
     requires nodes { HasNodes environment.now rc.old }
     requires node { IsNodeAt (data_of environment.now.given.now) (path_view path) (option_map (λ v. view v.now) node) }
-    ensures renders { (site : Site) (block : Bool) (v : CallView) (kept : KeptIn (within environment.now)) → IsUnlent kept.bases
-        → CarriesWith P.parts O.held O.may_give environment.now rc sink result kept
+    ensures renders { (site : Site) → Stands T.way.asks environment.now site → (block : Bool) (v : CallView) (kept : KeptIn (within environment.now))
+        → Keeps T.way.asks kept → IsUnlent kept.bases
+        → CarriesWith P.parts T.way environment.now rc sink result kept
         (take_turns site 0 (view_with_bodies block (call_view helper.now) v) (path_view path.entry) (turns_left turns.entry)) }
     ensures outer { HasOuter rc.old rc.new }
     ensures same { IsSame sink.old sink.new }
@@ -122,11 +126,52 @@ fn take_turns<'a, O: Output, P: Registered>(
             bases: &bases,
             ..*environment
         };
-        if let Err(e) = render_part(helper.template.as_ref(), &nearer, rc, sink) {
+        if let Err(e) = render_turn(helper, turn.index, &nearer, rc, sink) {
             return Err(e);
         }
     }
     Ok(())
+}
+
+// The body, in the turn over the member of this index, where pieces are told.
+#[inline(always)]
+#[cycle(render)]
+fn render_turn<'a, O, T: Telling<O>, P: Registered>(
+    helper: &'a HelperTemplate,
+    index: usize,
+    environment: &Environment<'_, 'a, P>,
+    rc: &mut RenderContext,
+    sink: &mut Sink<'_, O, T>,
+) -> Result<(), BoxedError>
+    requires nodes { HasNodes environment.now rc.old }
+    ensures renders { (site : Site) → Stands T.way.asks environment.now site → (i : ℕ)
+        → Carries P.parts T.way environment.now rc sink result
+        (render_branch (body_at site (as_turn i index)) (call_body (call_view helper.now))) }
+    ensures stays { Stays rc sink }
+{
+    if !T::asks() {
+        return render_part(helper.template.as_ref(), environment, rc, sink);
+    }
+    let turns = with_turn(environment.alloc, environment.spot.turns, index)?;
+    let spot = Spot {
+        turns: turns.as_slice(),
+        ..*environment.spot
+    };
+    let nearer = Environment {
+        spot: &spot,
+        ..*environment
+    };
+    render_part(helper.template.as_ref(), &nearer, rc, sink)
+}
+
+// Turns with one more within them.
+fn with_turn(alloc: Global, turns: &[usize], turn: usize) -> Result<Vec<usize>, AllocError>
+    ensures { IfOk result (λ all. all.items ≡ turns.now ++ turn ∷ []) }
+{
+    let mut all = Vec::new(alloc);
+    all.extend_from_slice(turns)?;
+    all.push(turn)?;
+    Ok(all)
 }
 
 // The node of a turn, by that of what is walked.

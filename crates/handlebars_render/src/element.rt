@@ -4,7 +4,7 @@ ghost use Rattle.handlebars_template.specs.TreeView.{element_view, call_view};
 ghost use Rattle.handlebars_meaning.specs.Sites.{Site};
 ghost use Rattle.handlebars_meaning.specs.Means.{render_element, render_expression, without_escaping};
 ghost use Rattle.handlebars_render.specs.Judgement.{Carries, Stays};
-ghost use Rattle.handlebars_render.specs.View.{HasNodes};
+ghost use Rattle.handlebars_render.specs.View.{HasNodes, Stands};
 
 use crate::block::render_tag;
 use crate::boxed::BoxedError;
@@ -14,20 +14,20 @@ use crate::environment::Environment;
 use crate::partial::render_partial;
 use crate::registered::Registered;
 use crate::sink::Sink;
+use crate::telling::Telling;
 use crate::write::write_text;
-use handlebars_base::output::Output;
 use handlebars_template::template::{HelperTemplate, TemplateElement};
 
 /// Renders one element of a tree.
 #[cycle(render)]
-pub fn render_element<'a, O: Output, P: Registered>(
+pub fn render_element<'a, O, T: Telling<O>, P: Registered>(
     element: &'a TemplateElement,
     environment: &Environment<'_, 'a, P>,
     rc: &mut RenderContext,
-    sink: &mut Sink<'_, O>,
+    sink: &mut Sink<'_, O, T>,
 ) -> Result<(), BoxedError>
     requires nodes { HasNodes environment.now rc.old }
-    ensures renders { (site : Site) → Carries P.parts O.held O.may_give environment.now rc sink result
+    ensures renders { (site : Site) → Stands T.way.asks environment.now site → Carries P.parts T.way environment.now rc sink result
         (render_element site (element_view element.now)) }
     ensures stays { Stays rc sink }
 {
@@ -46,14 +46,14 @@ pub fn render_element<'a, O: Output, P: Registered>(
 
 // An expression with escaping off, which is restored before a refusal goes on.
 #[cycle(render)]
-fn render_unescaped<'a, O: Output, P: Registered>(
+fn render_unescaped<'a, O, T: Telling<O>, P: Registered>(
     helper: &'a HelperTemplate,
     environment: &Environment<'_, 'a, P>,
     rc: &mut RenderContext,
-    sink: &mut Sink<'_, O>,
+    sink: &mut Sink<'_, O, T>,
 ) -> Result<(), BoxedError>
     requires nodes { HasNodes environment.now rc.old }
-    ensures renders { (site : Site) → Carries P.parts O.held O.may_give environment.now rc sink result
+    ensures renders { (site : Site) → Stands T.way.asks environment.now site → Carries P.parts T.way environment.now rc sink result
         (without_escaping (render_expression site (call_view helper.now))) }
     ensures stays { Stays rc sink }
 {

@@ -1,5 +1,6 @@
 //! The entrances of a rendering, for callers that have an output.
 
+ghost use Rattle.std.specs.Prelude.{false, true};
 ghost use Rattle.handlebars_template.specs.TreeView.{element_view, tree_view};
 ghost use Rattle.handlebars_helpers.specs.DecoratorsView.{tag_view};
 ghost use Rattle.handlebars_meaning.specs.Including.{include};
@@ -7,19 +8,22 @@ ghost use Rattle.handlebars_meaning.specs.Means.{render_element};
 ghost use Rattle.handlebars_meaning.specs.Sites.{Site, TreeSite};
 ghost use Rattle.handlebars_meaning.specs.Steps.{Whole, perform, run};
 ghost use Rattle.handlebars_render.specs.Boxed.{answer_of};
-ghost use Rattle.handlebars_render.specs.View.{setting_in, moment, CarriesOn, CarriesOut, IsKept, KeptIn, within, HasNodes};
+ghost use Rattle.handlebars_render.specs.View.{CarriesOn, CarriesOut, HasNodes, IsKept, Keeps, KeptIn, StandsIn, all_told, moment, setting_in, untold, within};
 
 use crate::boxed::BoxedError;
 use crate::context::RenderContext;
 use crate::element::render_element;
 use crate::environment::Environment;
 use crate::partial::include;
+use crate::pieces::PieceOutput;
 use crate::registered::Registered;
 use crate::sink::Sink;
+use crate::telling::{EachPiece, Untold};
 use crate::tree::render_tree;
 use handlebars_base::output::Output;
 use handlebars_helpers::decorators::view::Decorator;
 use handlebars_template::template::{Template, TemplateElement};
+use std::marker::PhantomData;
 
 /// Renders a tree into an output.
 pub fn render_into<'a, O: Output, P: Registered>(
@@ -29,15 +33,16 @@ pub fn render_into<'a, O: Output, P: Registered>(
     out: &mut O,
 ) -> Result<(), BoxedError>
     requires nodes { HasNodes environment.now rc.old }
-    ensures renders { (at : TreeSite) (kept : KeptIn (within environment.now)) → CarriesOn (setting_in P.parts environment.now)
-        (perform (Whole at (tree_view template.now))) O.may_give (moment kept rc.old (O.held out.old))
-        (answer_of result) (moment kept rc.new (O.held out.new)) }
+    ensures renders { (at : TreeSite) (kept : KeptIn (within environment.now)) → Keeps false kept
+        → CarriesOn (setting_in P.parts environment.now)
+        (perform (Whole at (tree_view template.now))) O.may_give (moment kept rc.old (untold (O.held out.old)))
+        (answer_of result) (moment kept rc.new (untold (O.held out.new))) }
     ensures kept { IsKept rc.old rc.new }
 {
-    let mut sink = Sink::Out(out);
+    let mut sink: Sink<'_, O, Untold> = Sink::Out(out, PhantomData);
     let answer = render_tree(template, environment, rc, &mut sink);
     match sink {
-        Sink::Out(_out) => answer,
+        Sink::Out(_out, _) => answer,
         Sink::Ahead(_ahead) => answer,
     }
 }
@@ -50,15 +55,16 @@ pub fn render_element_into<'a, O: Output, P: Registered>(
     out: &mut O,
 ) -> Result<(), BoxedError>
     requires nodes { HasNodes environment.now rc.old }
-    ensures renders { (site : Site) (kept : KeptIn (within environment.now)) → CarriesOut (setting_in P.parts environment.now)
-        (run (render_element site (element_view element.now))) O.may_give (moment kept rc.old (O.held out.old))
-        (answer_of result) (moment kept rc.new (O.held out.new)) }
+    ensures renders { (site : Site) (kept : KeptIn (within environment.now)) → Keeps false kept
+        → CarriesOut (setting_in P.parts environment.now)
+        (run (render_element site (element_view element.now))) O.may_give (moment kept rc.old (untold (O.held out.old)))
+        (answer_of result) (moment kept rc.new (untold (O.held out.new))) }
     ensures kept { IsKept rc.old rc.new }
 {
-    let mut sink = Sink::Out(out);
+    let mut sink: Sink<'_, O, Untold> = Sink::Out(out, PhantomData);
     let answer = render_element(element, environment, rc, &mut sink);
     match sink {
-        Sink::Out(_out) => answer,
+        Sink::Out(_out, _) => answer,
         Sink::Ahead(_ahead) => answer,
     }
 }
@@ -71,15 +77,38 @@ pub fn include_into<O: Output, P: Registered>(
     out: &mut O,
 ) -> Result<(), BoxedError>
     requires nodes { HasNodes environment.now rc.old }
-    ensures renders { (site : Site) (kept : KeptIn (within environment.now)) → CarriesOn (setting_in P.parts environment.now)
-        (include site (tag_view view.now)) O.may_give (moment kept rc.old (O.held out.old))
-        (answer_of result) (moment kept rc.new (O.held out.new)) }
+    ensures renders { (site : Site) (kept : KeptIn (within environment.now)) → Keeps false kept
+        → CarriesOn (setting_in P.parts environment.now)
+        (include site (tag_view view.now)) O.may_give (moment kept rc.old (untold (O.held out.old)))
+        (answer_of result) (moment kept rc.new (untold (O.held out.new))) }
     ensures kept { IsKept rc.old rc.new }
 {
-    let mut sink = Sink::Out(out);
+    let mut sink: Sink<'_, O, Untold> = Sink::Out(out, PhantomData);
     let answer = include(view, environment, rc, &mut sink);
     match sink {
-        Sink::Out(_out) => answer,
+        Sink::Out(_out, _) => answer,
+        Sink::Ahead(_ahead) => answer,
+    }
+}
+
+/// Renders a tree into an output that is told of each piece.
+pub fn render_pieces_into<'a, O: PieceOutput, P: Registered>(
+    template: &'a Template,
+    environment: &Environment<'_, 'a, P>,
+    rc: &mut RenderContext,
+    out: &mut O,
+) -> Result<(), BoxedError>
+    requires nodes { HasNodes environment.now rc.old }
+    ensures renders { (at : TreeSite) → StandsIn true environment.now at → (kept : KeptIn (within environment.now))
+        → Keeps true kept → CarriesOn (setting_in P.parts environment.now)
+        (perform (Whole at (tree_view template.now))) O.may_give (moment kept rc.old (all_told (O.told out.old)))
+        (answer_of result) (moment kept rc.new (all_told (O.told out.new))) }
+    ensures kept { IsKept rc.old rc.new }
+{
+    let mut sink: Sink<'_, O, EachPiece> = Sink::Out(out, PhantomData);
+    let answer = render_tree(template, environment, rc, &mut sink);
+    match sink {
+        Sink::Out(_out, _) => answer,
         Sink::Ahead(_ahead) => answer,
     }
 }

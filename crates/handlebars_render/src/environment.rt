@@ -2,6 +2,8 @@
 
 ghost use Rattle.std.specs.Prelude.{◌≡◌, ◌-◌, ◌^◌, None};
 
+use crate::ahead::Kept;
+use crate::pieces::Spot;
 use handlebars_scope::context::Context;
 use handlebars_scope::context::bases::Bases;
 use std::alloc::Global;
@@ -16,12 +18,14 @@ pub struct Environment<'r, 'a, P> {
     pub room: u64,
     /// How many inclusions are being rendered.
     pub inclusions: u16,
-    /// The text that is kept for partial blocks, if there is one.
-    pub kept: Option<&'r str>,
+    /// What is kept for partial blocks, if anything is.
+    pub kept: Option<&'r Kept>,
     /// The indentation in force, if there is one.
     pub indent: Option<&'r str>,
     /// What is lent to blocks of scope: values as their bases, and nodes of the data.
     pub bases: &'r Bases<'r, 'a>,
+    /// Where the element stands that is being rendered, where pieces are told.
+    pub spot: &'r Spot<'r>,
 }
 
 /// The environment outside of every inclusion, in which as many trees may nest as a count of 64 bits tells.
@@ -30,6 +34,7 @@ pub fn outside<'r, 'a, P>(
     parts: &'r P,
     given: &'a Context,
     bases: &'r Bases<'r, 'a>,
+    spot: &'r Spot<'r>,
 ) -> Environment<'r, 'a, P>
     ensures { result ≡ record {
       alloc = alloc;
@@ -40,6 +45,7 @@ pub fn outside<'r, 'a, P>(
       kept = None;
       indent = None;
       bases = bases.entry;
+      spot = spot.entry;
     } }
 {
     Environment {
@@ -51,5 +57,6 @@ pub fn outside<'r, 'a, P>(
         kept: None,
         indent: None,
         bases,
+        spot,
     }
 }

@@ -2,6 +2,7 @@
 //! that take a registry.
 #![tactic(auto)]
 
+pub mod ahead;
 mod block;
 mod bound;
 pub mod boxed;
@@ -22,11 +23,14 @@ mod next;
 mod null;
 mod own;
 mod partial;
+pub mod pieces;
 mod place;
 pub mod registered;
 mod section;
 pub mod sink;
 mod steps;
+mod tell;
+pub mod telling;
 pub mod tree;
 pub mod value;
 pub mod write;

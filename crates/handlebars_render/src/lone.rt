@@ -5,20 +5,22 @@ ghost use Rattle.std.specs.Cow.{cow_str_bytes};
 ghost use Rattle.serde_json.specs.View.{view};
 ghost use Rattle.handlebars_base.specs.Answers.{IsRefusal, gives};
 ghost use Rattle.handlebars_base.specs.PathView.{reference_of};
+ghost use Rattle.handlebars_base.specs.Path.{raw_of};
 ghost use Rattle.handlebars_base.specs.Reasons.{missing_variable};
 ghost use Rattle.handlebars_base.specs.RenderRefusals.{plain_refusal};
-ghost use Rattle.handlebars_base.specs.Scoped.{Found, found_of, missing, present_in};
+ghost use Rattle.handlebars_base.specs.Scoped.{Found, found_of, missing, path_in, present_in};
 ghost use Rattle.handlebars_template.specs.Tree.{Call, as_name, call_name, is_value};
 ghost use Rattle.handlebars_template.specs.Tree as tree;
 ghost use Rattle.handlebars_template.specs.TreeView.{call_view, param_view, subexpression_view};
 ghost use Rattle.handlebars_helpers.specs.CallView.{CallView};
+ghost use Rattle.handlebars_helpers.specs.View.{path_view};
 ghost use Rattle.handlebars_meaning.specs.Sites.{Site};
 ghost use Rattle.handlebars_meaning.specs.Means.{render_found, render_lone, render_lone_as};
 ghost use Rattle.handlebars_meaning.specs.Values.{HasName, HasValue, callee_name};
 ghost use Rattle.handlebars_render.specs.Boxed.{answer_of, error_of};
 ghost use Rattle.handlebars_render.specs.Next.{ComesTo, Settles};
 ghost use Rattle.handlebars_render.specs.Judgement.{AtMoment, InState};
-ghost use Rattle.handlebars_render.specs.View.{name_alone, setting_in, moment, state_with, KeptIn, within, held_in, IsSame, HasNodes};
+ghost use Rattle.handlebars_render.specs.View.{HasNodes, IsSame, KeptIn, Stands, held_in, moment, name_alone, setting_in, state_with, within};
 
 use crate::bound::bind_boxed;
 use crate::boxed::BoxedError;
@@ -29,12 +31,12 @@ use crate::environment::Environment;
 use crate::next::{Next, to_call};
 use crate::registered::{Registered, helper_named, hook, hooked};
 use crate::sink::Sink;
-use crate::value::{inner_value, written};
+use crate::telling::Telling;
+use crate::value::{find, inner_value, written};
 use crate::write::write_found;
 use handlebars_base::error::RenderErrorReason;
 use handlebars_base::json::path::Path;
 use handlebars_base::json::value::{Json, JsonRender, ScopedJson};
-use handlebars_base::output::Output;
 use handlebars_scope::context::reached::Reached;
 use handlebars_template::template::{HelperTemplate, Parameter, Subexpression};
 use std::alloc::{AllocError, Global};
@@ -42,17 +44,17 @@ use std::borrow::CowStr;
 
 /// An expression with no parameters and no pairs. Nothing is made for a name or a path. Most are paths with a value, so all
 /// else stays apart, and what it needs isn't made ready for them.
-pub fn settle_lone<'a, O: Output, P: Registered>(
+pub fn settle_lone<'a, O, T: Telling<O>, P: Registered>(
     helper: &'a HelperTemplate,
     environment: &Environment<'_, 'a, P>,
     rc: &RenderContext,
-    sink: &mut Sink<'_, O>,
+    sink: &mut Sink<'_, O, T>,
 ) -> Result<Next<'a>, BoxedError>
     requires nodes { HasNodes environment.now rc.now }
-    ensures comes { is_value (call_view helper.now) ≡ true → (site : Site)
-        → AtMoment O.held environment.now rc.now sink (λ before held. ComesTo
+    ensures comes { is_value (call_view helper.now) ≡ true → (site : Site) → Stands T.way.asks environment.now site
+        → AtMoment T.way environment.now rc.now sink (λ before held. ComesTo
         (setting_in P.parts environment.now) site false (call_view helper.now)
-        (render_lone site (call_view helper.now)) O.may_give before (answer_of result) held) }
+        (render_lone site (call_view helper.now)) T.way.may_give before (answer_of result) held) }
     ensures same { IsSame sink.old sink.new }
 {
     match &helper.name {
@@ -67,18 +69,18 @@ pub fn settle_lone<'a, O: Output, P: Registered>(
 
 // A call in parentheses, which is made once.
 #[inline(never)]
-fn settle_inner<'a, O: Output, P: Registered>(
+fn settle_inner<'a, O, T: Telling<O>, P: Registered>(
     helper: &'a HelperTemplate,
     environment: &Environment<'_, 'a, P>,
     inner: &'a Subexpression,
     rc: &RenderContext,
-    sink: &mut Sink<'_, O>,
+    sink: &mut Sink<'_, O, T>,
 ) -> Result<Next<'a>, BoxedError>
     requires nodes { HasNodes environment.now rc.now }
     ensures comes { is_value (call_view helper.now) ≡ true → call_name (call_view helper.now) ≡ tree.subexpression
-        (subexpression_view inner.now) → (site : Site) → AtMoment O.held environment.now rc.now sink
+        (subexpression_view inner.now) → (site : Site) → Stands T.way.asks environment.now site → AtMoment T.way environment.now rc.now sink
         (λ before held. ComesTo (setting_in P.parts environment.now) site false (call_view helper.now)
-        (render_lone site (call_view helper.now)) O.may_give before (answer_of result) held) }
+        (render_lone site (call_view helper.now)) T.way.may_give before (answer_of result) held) }
     ensures same { IsSame sink.old sink.new }
 {
     match inner_value(environment, rc, inner) {
@@ -112,18 +114,18 @@ fn settle_name<'a, P: Registered>(
 }
 
 // The value of a path is only looked at, also where a block has it, and its own path isn't told.
-fn settle_path<'a, O: Output, P: Registered>(
+fn settle_path<'a, O, T: Telling<O>, P: Registered>(
     helper: &'a HelperTemplate,
     environment: &Environment<'_, 'a, P>,
     path: &'a Path,
     rc: &RenderContext,
-    sink: &mut Sink<'_, O>,
+    sink: &mut Sink<'_, O, T>,
 ) -> Result<Next<'a>, BoxedError>
     requires nodes { HasNodes environment.now rc.now }
     ensures comes { is_value (call_view helper.now) ≡ true → call_name (call_view helper.now) ≡ tree.path
-        (reference_of path.now) → (site : Site) → AtMoment O.held environment.now rc.now sink
+        (reference_of path.now) → (site : Site) → Stands T.way.asks environment.now site → AtMoment T.way environment.now rc.now sink
         (λ before held. ComesTo (setting_in P.parts environment.now) site false (call_view helper.now)
-        (render_lone site (call_view helper.now)) O.may_give before (answer_of result) held) }
+        (render_lone site (call_view helper.now)) T.way.may_give before (answer_of result) held) }
     ensures same { IsSame sink.old sink.new }
 {
     match helper_named(environment.parts, rc, path.raw()) {
@@ -134,36 +136,74 @@ fn settle_path<'a, O: Output, P: Registered>(
             false,
             Called::alone(environment.alloc, CowStr::Borrowed(path.raw())),
         ),
-        None => match rc.reach(environment.given.data(), path, environment.bases) {
-            Reached::Value(value) => settle_found(environment, value, rc, sink),
-            Reached::Nothing => settle_missing(
-                helper,
-                environment,
-                CowStr::Borrowed(path.raw()),
-                rc,
-            ),
-            Reached::NoIndex(name) => Err(not_an_index(environment.alloc, name)),
-        },
+        None => {
+            if T::asks() {
+                return settle_told(helper, environment, path, rc, sink);
+            }
+            match rc.reach(environment.given.data(), path, environment.bases) {
+                Reached::Value(value) => settle_found(environment, value, None, rc, sink),
+                Reached::Nothing => settle_missing(
+                    helper,
+                    environment,
+                    CowStr::Borrowed(path.raw()),
+                    rc,
+                ),
+                Reached::NoIndex(name) => Err(not_an_index(environment.alloc, name)),
+            }
+        }
+    }
+}
+
+// The same where pieces are told: the value is found with its own path.
+#[inline(never)]
+fn settle_told<'a, O, T: Telling<O>, P: Registered>(
+    helper: &'a HelperTemplate,
+    environment: &Environment<'_, 'a, P>,
+    path: &'a Path,
+    rc: &RenderContext,
+    sink: &mut Sink<'_, O, T>,
+) -> Result<Next<'a>, BoxedError>
+    requires nodes { HasNodes environment.now rc.now }
+    ensures comes { (site : Site) → Stands T.way.asks environment.now site
+        → call_name (call_view helper.now) ≡ tree.path (reference_of path.now)
+        → AtMoment T.way environment.now rc.now sink
+        (λ before held. ComesTo (setting_in P.parts environment.now) site false (call_view helper.now)
+        (render_lone_as site (call_view helper.now) (name_alone (raw_of (reference_of path.now))) None)
+        T.way.may_give before (answer_of result) held) }
+    ensures same { IsSame sink.old sink.new }
+{
+    let found = match find(environment, rc, path) {
+        Ok(found) => found,
+        Err(e) => return Err(e),
+    };
+    match found.as_json() {
+        Some(value) => settle_found(environment, value, found.context_path(), rc, sink),
+        None => settle_missing(
+            helper,
+            environment,
+            CowStr::Borrowed(path.raw()),
+            rc,
+        ),
     }
 }
 
 // A literal, or a call in parentheses, which was made once: its text is the name.
 #[inline(never)]
-fn settle_value<'a, O: Output, P: Registered>(
+fn settle_value<'a, O, T: Telling<O>, P: Registered>(
     helper: &'a HelperTemplate,
     environment: &Environment<'_, 'a, P>,
     value: ScopedJson<'a>,
     rc: &RenderContext,
-    sink: &mut Sink<'_, O>,
+    sink: &mut Sink<'_, O, T>,
 ) -> Result<Next<'a>, BoxedError>
-    ensures comes { is_value (call_view helper.now) ≡ true → (site : Site) (kept : KeptIn (within environment.now))
+    ensures comes { is_value (call_view helper.now) ≡ true → (site : Site) → Stands T.way.asks environment.now site → (kept : KeptIn (within environment.now))
         → HasName (setting_in P.parts environment.now) (state_with kept rc.now) (call_name (call_view helper.now))
         (gives (callee_name (found_of value.entry)))
         → HasValue (setting_in P.parts environment.now) (state_with kept rc.now) (call_name (call_view helper.now))
         (gives (found_of value.entry))
         → ComesTo (setting_in P.parts environment.now) site false (call_view helper.now)
         (render_lone site (call_view helper.now))
-        O.may_give (moment kept rc.now (held_in O.held sink.old)) (answer_of result) (held_in O.held sink.new) }
+        T.way.may_give (moment kept rc.now (held_in T.way sink.old)) (answer_of result) (held_in T.way sink.new) }
     ensures same { IsSame sink.old sink.new }
 {
     let name = value.render(environment.alloc)?;
@@ -176,7 +216,7 @@ fn settle_value<'a, O: Output, P: Registered>(
             Called::alone(environment.alloc, CowStr::Owned(name)),
         ),
         None => match value.as_json() {
-            Some(value) => settle_found(environment, value, rc, sink),
+            Some(json) => settle_found(environment, json, value.context_path(), rc, sink),
             None => settle_missing(helper, environment, CowStr::Owned(name), rc),
         },
     }
@@ -184,20 +224,21 @@ fn settle_value<'a, O: Output, P: Registered>(
 
 // Writes the value of an expression that no helper has the name of.
 #[inline(always)]
-fn settle_found<'a, O: Output, P: Registered>(
+fn settle_found<'a, O, T: Telling<O>, P: Registered>(
     environment: &Environment<'_, 'a, P>,
     value: &Json,
+    path: Option<&Vec<String>>,
     rc: &RenderContext,
-    sink: &mut Sink<'_, O>,
+    sink: &mut Sink<'_, O, T>,
 ) -> Result<Next<'a>, BoxedError>
-    ensures comes { (c : Call) (v : CallView) (found : Found) (site : Site) (kept : KeptIn (within environment.now))
+    ensures comes { (c : Call) (v : CallView) (found : Found) (site : Site) → Stands T.way.asks environment.now site → (kept : KeptIn (within environment.now))
         → HasValue (setting_in P.parts environment.now) (state_with kept rc.now) (call_name c) (gives found)
-        → present_in found ≡ Some (view value.now)
+        → present_in found ≡ Some (view value.now) → (T.way.asks ≡ true → path_in found ≡ path_view path.entry)
         → ComesTo (setting_in P.parts environment.now) site false c (render_lone_as site c v None)
-        O.may_give (moment kept rc.now (held_in O.held sink.old)) (answer_of result) (held_in O.held sink.new) }
+        T.way.may_give (moment kept rc.now (held_in T.way sink.old)) (answer_of result) (held_in T.way sink.new) }
     ensures same { IsSame sink.old sink.new }
 {
-    match write_found(environment, Some(value), rc, sink) {
+    match write_found(environment, Some(value), path, rc, sink) {
         Ok(line) => Ok(Next::Done(line)),
         Err(e) => Err(e),
     }

@@ -15,7 +15,7 @@ ghost use Rattle.handlebars_render.specs.Boxed.{answer_of, error_of};
 ghost use Rattle.handlebars_render.specs.Next.{ComesTo, IsCall, Settles};
 ghost use Rattle.handlebars_render.specs.Targets.{target_in};
 ghost use Rattle.handlebars_render.specs.Judgement.{AtMoment, InState};
-ghost use Rattle.handlebars_render.specs.View.{setting_in, called_view, state_of, IsSame, HasNodes};
+ghost use Rattle.handlebars_render.specs.View.{HasNodes, IsSame, Stands, called_view, setting_in, state_of};
 
 use crate::bound::{BoundCall, bind_boxed};
 use crate::boxed::BoxedError;
@@ -28,8 +28,8 @@ use crate::place::settle_placed;
 use crate::registered::{Registered, Target, helper_for};
 use crate::section::settle_section;
 use crate::sink::Sink;
+use crate::telling::Telling;
 use crate::value::{expand_as_name, pairs_values, params_values};
-use handlebars_base::output::Output;
 use handlebars_scope::context::place::Place;
 use handlebars_scope::line::LineState;
 use handlebars_template::template::HelperTemplate;
@@ -56,17 +56,17 @@ pub enum Next<'a> {
 /// Writes a value, or finds the helper that is to be called for a block or an expression. Its caller recurses, and has no room
 /// for what it needs.
 #[inline(never)]
-pub fn settle_tag<'a, O: Output, P: Registered>(
+pub fn settle_tag<'a, O, T: Telling<O>, P: Registered>(
     helper: &'a HelperTemplate,
     environment: &Environment<'_, 'a, P>,
     block: bool,
     rc: &RenderContext,
-    sink: &mut Sink<'_, O>,
+    sink: &mut Sink<'_, O, T>,
 ) -> Result<Next<'a>, BoxedError>
     requires nodes { HasNodes environment.now rc.now }
-    ensures comes { (site : Site) → AtMoment O.held environment.now rc.now sink
+    ensures comes { (site : Site) → Stands T.way.asks environment.now site → AtMoment T.way environment.now rc.now sink
         (λ before held. ComesTo (setting_in P.parts environment.now) site block (call_view helper.now)
-        (render_tag site block (call_view helper.now)) O.may_give before (answer_of result) held) }
+        (render_tag site block (call_view helper.now)) T.way.may_give before (answer_of result) held) }
     ensures same { IsSame sink.old sink.new }
 {
     if block {
@@ -76,16 +76,16 @@ pub fn settle_tag<'a, O: Output, P: Registered>(
     }
 }
 
-fn settle_expression<'a, O: Output, P: Registered>(
+fn settle_expression<'a, O, T: Telling<O>, P: Registered>(
     helper: &'a HelperTemplate,
     environment: &Environment<'_, 'a, P>,
     rc: &RenderContext,
-    sink: &mut Sink<'_, O>,
+    sink: &mut Sink<'_, O, T>,
 ) -> Result<Next<'a>, BoxedError>
     requires nodes { HasNodes environment.now rc.now }
-    ensures comes { (site : Site) → AtMoment O.held environment.now rc.now sink
+    ensures comes { (site : Site) → Stands T.way.asks environment.now site → AtMoment T.way environment.now rc.now sink
         (λ before held. ComesTo (setting_in P.parts environment.now) site false (call_view helper.now)
-        (render_expression site (call_view helper.now)) O.may_give before (answer_of result) held) }
+        (render_expression site (call_view helper.now)) T.way.may_give before (answer_of result) held) }
     ensures same { IsSame sink.old sink.new }
 {
     if helper.is_value() {

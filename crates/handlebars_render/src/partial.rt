@@ -3,35 +3,37 @@
 ghost use Rattle.std.specs.Prelude.{◌≡◌, ◌<◌, ◌≤◌, ◌+◌, IfErr, IfOk};
 ghost use Rattle.std.specs.Str.{bytes_eq};
 ghost use Rattle.handlebars_base.specs.Answers.{IsRefusal};
-ghost use Rattle.handlebars_base.specs.Outputs.{Held};
 ghost use Rattle.handlebars_base.specs.Reasons.{inclusion_limit, partial_not_found};
 ghost use Rattle.handlebars_base.specs.RenderRefusals.{plain_refusal, reason_of};
-ghost use Rattle.handlebars_template.specs.Tree.{decorator_marks};
+ghost use Rattle.handlebars_template.specs.Tree.{decorator_marks, tree_name};
 ghost use Rattle.handlebars_template.specs.TreeView.{decorator_view, tree_view};
 ghost use Rattle.handlebars_helpers.specs.DecoratorsView.{tag_view};
 ghost use Rattle.handlebars_meaning.specs.Inclusion.{newest};
 ghost use Rattle.handlebars_meaning.specs.Including.{include, include_tree, partial_block_name, render_ahead, write_kept};
 ghost use Rattle.handlebars_meaning.specs.Means.{line_at, render_partial};
-ghost use Rattle.handlebars_meaning.specs.Sites.{Site, TreeSite};
+ghost use Rattle.handlebars_meaning.specs.Sites.{Site, TreeSite, the_included};
 ghost use Rattle.handlebars_meaning.specs.Steps.{Whole, capture, perform};
 ghost use Rattle.handlebars_render.specs.Boxed.{answer_of, error_of};
 ghost use Rattle.handlebars_render.specs.Chosen.{part_view};
 ghost use Rattle.handlebars_render.specs.Inclusions.{included};
+ghost use Rattle.handlebars_render.specs.PiecesView.{template_seen};
 ghost use Rattle.handlebars_render.specs.Judgement.{Carries, CarriesWith, Stays};
-ghost use Rattle.handlebars_render.specs.View.{setting_in, state_of, state_with, moment, CarriesAhead, CarriesOn, IsKept, KeptIn, within, held_in, HasNodes};
+ghost use Rattle.handlebars_render.specs.View.{CarriesAhead, CarriesOn, HasNodes, Holding, IsKept, Keeps, KeptIn, Stands, StandsAs, StandsIn, held_in, moment, setting_in, state_of, state_with, within};
 
 use crate::block::leave_call;
+use crate::ahead::{Ahead, Kept};
 use crate::boxed::BoxedError;
 use crate::called::view_of_tag;
 use crate::context::RenderContext;
 use crate::environment::Environment;
 use crate::inclusion::{LentBlock, inclusion_block};
+use crate::pieces::{Spot, Standing};
 use crate::registered::Registered;
 use crate::sink::Sink;
+use crate::telling::Telling;
 use crate::tree::render_tree;
-use crate::write::write_as_is;
+use crate::write::write_kept;
 use handlebars_base::error::RenderErrorReason;
-use handlebars_base::output::{Output, StringOutput};
 use handlebars_helpers::decorators::view::Decorator;
 use handlebars_scope::context::bases::Bases;
 use handlebars_template::template::{DecoratorTemplate, Template};
@@ -39,14 +41,14 @@ use std::alloc::{AllocError, Global};
 
 /// Renders what the tag of an inclusion includes. Its view is made first; behind it the line is as behind a call.
 #[cycle(render)]
-pub fn render_partial<'a, O: Output, P: Registered>(
+pub fn render_partial<'a, O, T: Telling<O>, P: Registered>(
     tag: &'a DecoratorTemplate,
     environment: &Environment<'_, 'a, P>,
     rc: &mut RenderContext,
-    sink: &mut Sink<'_, O>,
+    sink: &mut Sink<'_, O, T>,
 ) -> Result<(), BoxedError>
     requires nodes { HasNodes environment.now rc.old }
-    ensures renders { (site : Site) → Carries P.parts O.held O.may_give environment.now rc sink result
+    ensures renders { (site : Site) → Stands T.way.asks environment.now site → Carries P.parts T.way environment.now rc sink result
         (render_partial site (decorator_view tag.now)) }
     ensures stays { Stays rc sink }
 {
@@ -77,14 +79,14 @@ fn enter_partial(rc: &mut RenderContext, tag: &DecoratorTemplate)
 
 /// Includes what is found by the name of a tag.
 #[cycle(render)]
-pub fn include<O: Output, P: Registered>(
+pub fn include<O, T: Telling<O>, P: Registered>(
     view: &Decorator,
     environment: &Environment<'_, '_, P>,
     rc: &mut RenderContext,
-    sink: &mut Sink<'_, O>,
+    sink: &mut Sink<'_, O, T>,
 ) -> Result<(), BoxedError>
     requires nodes { HasNodes environment.now rc.old }
-    ensures renders { (site : Site) → Carries P.parts O.held O.may_give environment.now rc sink result
+    ensures renders { (site : Site) → Stands T.way.asks environment.now site → Carries P.parts T.way environment.now rc sink result
         (include site (tag_view view.now)) }
     ensures stays { Stays rc sink }
 {
@@ -97,14 +99,33 @@ pub fn include<O: Output, P: Registered>(
     let found = rc.shared_partial(view.name())?;
     let nearer = Environment { ..*environment };
     match &found {
-        Some(tree) => include_tree(view, &*tree, view.template(), &nearer, rc, sink),
+        Some(tree) => {
+            let template = included(&*tree);
+            include_tree(view, &*tree, template, view.template(), &nearer, rc, sink)
+        }
         None => match environment.parts.template(view.name()) {
-            Some(tree) => include_tree(view, &*tree, view.template(), &nearer, rc, sink),
+            Some(tree) => {
+                let template = included(&*tree);
+                include_tree(view, &*tree, template, view.template(), &nearer, rc, sink)
+            }
             None => match view.template() {
-                Some(body) => include_tree(view, &*body, None, &nearer, rc, sink),
+                Some(body) => {
+                    let template = environment.spot.template;
+                    include_tree(view, &*body, template, None, &nearer, rc, sink)
+                }
                 None => Err(no_partial(environment.alloc, view.name())),
             },
         },
+    }
+}
+
+// Where the elements of an included tree stand.
+fn included(tree: &Template) -> Standing<'_>
+    ensures { template_seen result ≡ the_included (tree_name (tree_view tree.now)) }
+{
+    match &tree.name {
+        Some(name) => Standing::Included(Some(name.as_str())),
+        None => Standing::Included(None),
     }
 }
 
@@ -117,19 +138,20 @@ fn is_partial_block(name: &str) -> bool
 
 // Writes the text that is kept, or renders the tag's own block.
 #[cycle(render)]
-fn render_kept<O: Output, P: Registered>(
+fn render_kept<O, T: Telling<O>, P: Registered>(
     view: &Decorator,
     environment: &Environment<'_, '_, P>,
     rc: &mut RenderContext,
-    sink: &mut Sink<'_, O>,
+    sink: &mut Sink<'_, O, T>,
 ) -> Result<(), BoxedError>
     requires nodes { HasNodes environment.now rc.old }
-    ensures renders { (site : Site) (kept : KeptIn (within environment.now)) → CarriesWith P.parts O.held O.may_give environment.now rc sink result kept
+    ensures renders { (site : Site) → Stands T.way.asks environment.now site → (kept : KeptIn (within environment.now))
+        → Keeps T.way.asks kept → CarriesWith P.parts T.way environment.now rc sink result kept
         (write_kept site (tag_view view.now).body (state_with kept rc.old) (newest kept.pieces)) }
     ensures stays { Stays rc sink }
 {
-    if let Some(text) = environment.kept {
-        return write_as_is(environment.alloc, text, sink);
+    if let Some(kept) = environment.kept {
+        return write_kept(environment.alloc, kept, sink);
     }
     let Some(body) = view.template() else {
         return Err(refused(environment.alloc, RenderErrorReason::PartialBlockNotFound));
@@ -143,16 +165,18 @@ fn render_kept<O: Output, P: Registered>(
 
 // Includes a tree, in a block of its own. This body, if there is one, is rendered ahead, and its text is kept for the tree.
 #[cycle(render)]
-fn include_tree<'a, O: Output, P: Registered>(
+fn include_tree<'a, O, T: Telling<O>, P: Registered>(
     view: &Decorator,
     tree: &'a Template,
+    template: Standing<'_>,
     body: Option<&Template>,
     environment: &Environment<'_, 'a, P>,
     rc: &mut RenderContext,
-    sink: &mut Sink<'_, O>,
+    sink: &mut Sink<'_, O, T>,
 ) -> Result<(), BoxedError>
     requires nodes { HasNodes environment.now rc.old }
-    ensures renders { (site : Site) (at : TreeSite) → Carries P.parts O.held O.may_give environment.now rc sink result
+    ensures renders { (site : Site) → Stands T.way.asks environment.now site
+        → (at : TreeSite) → StandsAs T.way.asks environment.now template.entry at → Carries P.parts T.way environment.now rc sink result
         (include_tree (tag_view view.now) at (tree_view tree.now) (render_ahead site (part_view body.entry))) }
     ensures stays { Stays rc sink }
 {
@@ -171,11 +195,11 @@ fn include_tree<'a, O: Output, P: Registered>(
         ..*environment
     };
     let answer = match body {
-        Some(body) => match render_ahead::<O, P>(&*body, &nearer, rc) {
-            Ok(text) => render_under(tree, count, Some(text.as_str()), view, &nearer, rc, sink),
+        Some(body) => match render_ahead::<O, T, P>(&*body, &nearer, rc) {
+            Ok(kept) => render_under(tree, template, count, Some(&kept), view, &nearer, rc, sink),
             Err(e) => Err(e),
         },
-        None => render_under(tree, count, None, view, &nearer, rc, sink),
+        None => render_under(tree, template, count, None, view, &nearer, rc, sink),
     };
     rc.end(name);
     answer
@@ -183,27 +207,33 @@ fn include_tree<'a, O: Output, P: Registered>(
 
 // Renders a tree as one more inclusion, for which this text is kept, or none, under the indentation of the view.
 #[cycle(render)]
-fn render_under<'a, O: Output, P: Registered>(
+fn render_under<'a, O, T: Telling<O>, P: Registered>(
     tree: &'a Template,
+    template: Standing<'_>,
     count: u16,
-    text: Option<&str>,
+    kept: Option<&Kept>,
     view: &Decorator,
     environment: &Environment<'_, 'a, P>,
     rc: &mut RenderContext,
-    sink: &mut Sink<'_, O>,
+    sink: &mut Sink<'_, O, T>,
 ) -> Result<(), BoxedError>
     requires nodes { HasNodes environment.now rc.old }
-    ensures renders { (at : TreeSite) (kept : KeptIn (included count text.entry (tag_view view.now).indent
-        (within environment.now).bases))
-        → CarriesOn (setting_in P.parts environment.now) (perform (Whole at (tree_view tree.now)))
-        O.may_give (moment kept rc.old (held_in O.held sink.old))
-        (answer_of result) (moment kept rc.new (held_in O.held sink.new)) }
+    ensures renders { (at : TreeSite) → StandsAs T.way.asks environment.now template.entry at
+        → (kept : KeptIn (included count kept.entry (tag_view view.now).indent (within environment.now).bases))
+        → Keeps T.way.asks kept → CarriesOn (setting_in P.parts environment.now) (perform (Whole at (tree_view tree.now)))
+        T.way.may_give (moment kept rc.old (held_in T.way sink.old))
+        (answer_of result) (moment kept rc.new (held_in T.way sink.new)) }
     ensures stays { Stays rc sink }
 {
+    let spot = Spot {
+        template,
+        ..*environment.spot
+    };
     let nearer = Environment {
         inclusions: count,
-        kept: text,
+        kept,
         indent: view.indent(),
+        spot: &spot,
         ..*environment
     };
     render_tree(tree, &nearer, rc, sink)
@@ -211,27 +241,27 @@ fn render_under<'a, O: Output, P: Registered>(
 
 // The text of a tag's block, which is kept for the partial blocks of what is included.
 #[cycle(render)]
-fn render_ahead<O: Output, P: Registered>(
+fn render_ahead<O, T: Telling<O>, P: Registered>(
     body: &Template,
     environment: &Environment<'_, '_, P>,
     rc: &mut RenderContext,
-) -> Result<String, BoxedError>
+) -> Result<Kept, BoxedError>
     requires nodes { HasNodes environment.now rc.old }
-    ensures ahead { (at : TreeSite) (kept : KeptIn (within environment.now)) (held : Held)
-        → CarriesAhead (setting_in P.parts environment.now) (capture (perform (Whole at (tree_view body.now))))
-        O.may_give (moment kept rc.old held) (answer_of result) (moment kept rc.new held) }
+    ensures ahead { (at : TreeSite) → StandsIn T.way.asks environment.now at → (kept : KeptIn (within environment.now))
+        → Keeps T.way.asks kept → (held : Holding) → CarriesAhead T.way.asks (setting_in P.parts environment.now) (capture (perform (Whole at (tree_view body.now))))
+        T.way.may_give (moment kept rc.old held) (answer_of result) (moment kept rc.new held) }
     ensures kept { IsKept rc.old rc.new }
 {
     let nearer = Environment { ..*environment };
-    let mut text = StringOutput::new(environment.alloc);
-    let mut ahead: Sink<'_, O> = Sink::Ahead(&mut text);
-    let answer = render_tree(&*body, &nearer, rc, &mut ahead);
-    match ahead {
-        Sink::Ahead(_text) => match answer {
-            Ok(()) => Ok(text.into_string()),
+    let mut ahead = Ahead::new(environment.alloc);
+    let mut sink: Sink<'_, O, T> = Sink::Ahead(&mut ahead);
+    let answer = render_tree(&*body, &nearer, rc, &mut sink);
+    match sink {
+        Sink::Ahead(_ahead) => match answer {
+            Ok(()) => Ok(ahead.into_kept()),
             Err(e) => Err(e),
         },
-        Sink::Out(_out) => unreachable!(),
+        Sink::Out(_out, _) => unreachable!(),
     }
 }
 

@@ -1,37 +1,42 @@
 //! Where a rendering writes: an output, or a text that is rendered ahead.
 
-ghost use Rattle.std.specs.Prelude.{false, true};
+ghost use Rattle.std.specs.Prelude.{◌≡◌, false, true};
 ghost use Rattle.serde_json.specs.View.{view};
 ghost use Rattle.handlebars_base.specs.Shown.{escaped_if, shown};
 ghost use Rattle.handlebars_scope.specs.Indentation.{written_in};
 ghost use Rattle.handlebars_scope.specs.LineView.{line_of};
+ghost use Rattle.handlebars_render.specs.PiecesView.{told_seen};
 ghost use Rattle.handlebars_render.specs.View.{IsSame, TellsFault, held_in};
-ghost use Rattle.handlebars_render.specs.Writes.{WritesAsIs};
+ghost use Rattle.handlebars_render.specs.Writes.{TellsPiece, WritesText};
 ghost use Rattle.handlebars_meaning.specs.Runs.{plain_fault};
 ghost use Rattle.handlebars_render.specs.Boxed.{answer_of, error_of};
 
+use crate::ahead::Ahead;
 use crate::boxed::BoxedError;
+use crate::pieces::Origin;
+use crate::telling::Telling;
 use handlebars_base::error::{RenderError, RenderErrorReason};
 use handlebars_base::json::value::{Json, write_value};
-use handlebars_base::output::{Output, StringOutput, output_fault};
+use handlebars_base::output::{Output, output_fault};
 use handlebars_scope::indentation::write_in_line;
 use handlebars_scope::line::LineState;
 use std::alloc::Global;
 use std::io;
 use std::io::ErrorKind;
+use std::marker::PhantomData;
 
-/// Where a rendering writes: to the output, or to a text that is rendered ahead for partial blocks. So the cycle of
+/// Where a rendering writes: to the output, in some way, or to what is rendered ahead for partial blocks. So the cycle of
 /// rendering has one type of output.
 #[derive(Drop)]
-pub enum Sink<'o, O> {
-    Out(&'o mut O),
-    Ahead(&'o mut StringOutput),
+pub enum Sink<'o, O, T> {
+    Out(&'o mut O, PhantomData<T>),
+    Ahead(&'o mut Ahead),
 }
 
 // What is written here goes straight to one of the two: which of them it is, is asked once for a text, however many
 // writes it takes. Each arm tells by itself what its write came to, in a box: where both met in one `Result` of an error of
 // the system, each write copied its 96 bytes.
-impl<'o, O: Output> Sink<'o, O> {
+impl<'o, O, T: Telling<O>> Sink<'o, O, T> {
     /// Writes a text: the word of a boolean helper, whose fault is told by its text, or another one.
     #[inline(always)]
     pub(crate) fn write(
@@ -40,15 +45,16 @@ impl<'o, O: Output> Sink<'o, O> {
         at_word: bool,
         text: &str,
     ) -> Result<(), BoxedError>
-        ensures writes { WritesAsIs text.now at_word O.may_give (held_in O.held self.old) (answer_of result) (held_in O.held self.new) }
+        requires untold { T.way.asks ≡ false }
+        ensures writes { WritesText text.now at_word T.way.may_give (held_in T.way self.old) (answer_of result) (held_in T.way self.new) }
         ensures same { IsSame self.old self.new }
     {
         match self {
-            Sink::Out(out) => match out.write(text) {
+            Sink::Out(out, _) => match T::write(&mut **out, text) {
                 Ok(()) => Ok(()),
                 Err(fault) => Err(told_fault(alloc, at_word, fault)),
             },
-            Sink::Ahead(ahead) => match ahead.write(text) {
+            Sink::Ahead(ahead) => match ahead.text.write(text) {
                 Ok(()) => Ok(()),
                 Err(fault) => Err(told_fault(alloc, at_word, fault)),
             },
@@ -63,16 +69,17 @@ impl<'o, O: Output> Sink<'o, O> {
         value: &Json,
         entities: bool,
     ) -> Result<(), BoxedError>
-        ensures writes { WritesAsIs (shown entities (view value.now)) false O.may_give
-            (held_in O.held self.old) (answer_of result) (held_in O.held self.new) }
+        requires untold { T.way.asks ≡ false }
+        ensures writes { WritesText (shown entities (view value.now)) false T.way.may_give
+            (held_in T.way self.old) (answer_of result) (held_in T.way self.new) }
         ensures same { IsSame self.old self.new }
     {
         match self {
-            Sink::Out(out) => match write_value(&mut **out, value, entities) {
+            Sink::Out(out, _) => match T::write_value(&mut **out, value, entities) {
                 Ok(()) => Ok(()),
                 Err(fault) => Err(told_fault(alloc, false, fault)),
             },
-            Sink::Ahead(ahead) => match write_value(&mut **ahead, value, entities) {
+            Sink::Ahead(ahead) => match write_value(&mut ahead.text, value, entities) {
                 Ok(()) => Ok(()),
                 Err(fault) => Err(told_fault(alloc, false, fault)),
             },
@@ -88,18 +95,48 @@ impl<'o, O: Output> Sink<'o, O> {
         indent: &str,
         entities: bool,
     ) -> Result<(), BoxedError>
-        ensures writes { WritesAsIs (written_in indent.now (line_of line) (escaped_if entities text.now)) false O.may_give
-            (held_in O.held self.old) (answer_of result) (held_in O.held self.new) }
+        requires untold { T.way.asks ≡ false }
+        ensures writes { WritesText (written_in indent.now (line_of line) (escaped_if entities text.now)) false T.way.may_give
+            (held_in T.way self.old) (answer_of result) (held_in T.way self.new) }
         ensures same { IsSame self.old self.new }
     {
         match self {
-            Sink::Out(out) => match write_in_line(line, text, indent, entities, &mut **out) {
+            Sink::Out(out, _) => {
+                match T::write_in_line(&mut **out, line, text, indent, entities) {
+                    Ok(()) => Ok(()),
+                    Err(fault) => Err(told_fault(alloc, false, fault)),
+                }
+            }
+            Sink::Ahead(ahead) => {
+                match write_in_line(line, text, indent, entities, &mut ahead.text) {
+                    Ok(()) => Ok(()),
+                    Err(fault) => Err(told_fault(alloc, false, fault)),
+                }
+            }
+        }
+    }
+
+    /// Hands over a piece: the word of a boolean helper, or another one.
+    pub(crate) fn tell(
+        &mut self,
+        alloc: Global,
+        at_word: bool,
+        text: &str,
+        origin: &Origin<'_>,
+    ) -> Result<(), BoxedError>
+        requires told { T.way.asks ≡ true }
+        ensures tells { TellsPiece (told_seen text.now origin.now) at_word T.way.may_give
+            (held_in T.way self.old) (answer_of result) (held_in T.way self.new) }
+        ensures same { IsSame self.old self.new }
+    {
+        match self {
+            Sink::Out(out, _) => match T::tell(&mut **out, text, origin) {
                 Ok(()) => Ok(()),
-                Err(fault) => Err(told_fault(alloc, false, fault)),
+                Err(fault) => Err(told_fault(alloc, at_word, fault)),
             },
-            Sink::Ahead(ahead) => match write_in_line(line, text, indent, entities, &mut **ahead) {
+            Sink::Ahead(ahead) => match ahead.keep(alloc, text, origin) {
                 Ok(()) => Ok(()),
-                Err(fault) => Err(told_fault(alloc, false, fault)),
+                Err(_) => Err(BoxedError::OutOfMemory),
             },
         }
     }

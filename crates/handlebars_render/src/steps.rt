@@ -7,7 +7,7 @@ ghost use Rattle.handlebars_helpers.specs.OwnView.{step_of};
 ghost use Rattle.handlebars_meaning.specs.CarryOut.{view_with_bodies, take_step, take_steps};
 ghost use Rattle.handlebars_meaning.specs.Sites.{Site};
 ghost use Rattle.handlebars_render.specs.Judgement.{Carries, Stays};
-ghost use Rattle.handlebars_render.specs.View.{HasNodes};
+ghost use Rattle.handlebars_render.specs.View.{HasNodes, Stands};
 
 use crate::block::render_part;
 use crate::boxed::BoxedError;
@@ -16,23 +16,23 @@ use crate::each::render_in;
 use crate::environment::Environment;
 use crate::registered::Registered;
 use crate::sink::Sink;
-use crate::write::write_as_is;
-use handlebars_base::output::Output;
+use crate::telling::Telling;
+use crate::write::write_step;
 use handlebars_helpers::own::HelperStep;
 use handlebars_template::template::HelperTemplate;
 
 /// The steps, in order.
 #[cycle(render)]
-pub fn take_steps<'a, O: Output, P: Registered>(
+pub fn take_steps<'a, O, T: Telling<O>, P: Registered>(
     helper: &'a HelperTemplate,
     environment: &Environment<'_, 'a, P>,
     steps: Vec<HelperStep>,
     rc: &mut RenderContext,
-    sink: &mut Sink<'_, O>,
+    sink: &mut Sink<'_, O, T>,
 ) -> Result<(), BoxedError>
     requires nodes { HasNodes environment.now rc.old }
-    ensures renders { (site : Site) (block : Bool) (v : CallView)
-        → Carries P.parts O.held O.may_give environment.now rc sink result
+    ensures renders { (site : Site) → Stands T.way.asks environment.now site → (block : Bool) (v : CallView)
+        → Carries P.parts T.way environment.now rc sink result
         (take_steps site (view_with_bodies block (call_view helper.now) v) 0 (map step_of steps.items)) }
     ensures stays { Stays rc sink }
 {
@@ -45,21 +45,21 @@ pub fn take_steps<'a, O: Output, P: Registered>(
 }
 
 #[cycle(render)]
-fn take_step<'a, O: Output, P: Registered>(
+fn take_step<'a, O, T: Telling<O>, P: Registered>(
     helper: &'a HelperTemplate,
     environment: &Environment<'_, 'a, P>,
     step: HelperStep,
     rc: &mut RenderContext,
-    sink: &mut Sink<'_, O>,
+    sink: &mut Sink<'_, O, T>,
 ) -> Result<(), BoxedError>
     requires nodes { HasNodes environment.now rc.old }
-    ensures renders { (site : Site) (i : ℕ) (block : Bool) (v : CallView)
-        → Carries P.parts O.held O.may_give environment.now rc sink result
+    ensures renders { (site : Site) → Stands T.way.asks environment.now site → (i : ℕ) (block : Bool) (v : CallView)
+        → Carries P.parts T.way environment.now rc sink result
         (take_step site (view_with_bodies block (call_view helper.now) v) i (step_of step)) }
     ensures stays { Stays rc sink }
 {
     match step {
-        HelperStep::Write(text) => write_as_is(environment.alloc, text.as_str(), sink),
+        HelperStep::Write(text) => write_step(environment, text.as_str(), sink),
         HelperStep::Body => render_part(helper.template.as_ref(), environment, rc, sink),
         HelperStep::Inverse => render_part(helper.inverse.as_ref(), environment, rc, sink),
         HelperStep::BodyIn(scope) => render_in(helper, environment, scope, None, rc, sink),

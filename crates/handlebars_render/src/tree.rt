@@ -1,38 +1,40 @@
 //! Rendering a tree.
 
-ghost use Rattle.std.specs.Prelude.{◌≡◌, ◌≢◌, None, option_map, string_bytes};
+ghost use Rattle.std.specs.Prelude.{◌≡◌, ◌≢◌, None, map, option_map, slice_get, string_bytes};
 ghost use Rattle.handlebars_base.specs.Reasons.{out_of_memory};
 ghost use Rattle.handlebars_base.specs.RenderRefusals.{reason_in, spot_of, cause_of};
-ghost use Rattle.handlebars_template.specs.TreeView.{tree_view, place_of};
-ghost use Rattle.handlebars_meaning.specs.Sites.{TreeSite};
+ghost use Rattle.handlebars_template.specs.TreeView.{element_view, place_of, tree_view};
+ghost use Rattle.handlebars_meaning.specs.Sites.{TreeSite, element_in};
+ghost use Rattle.handlebars_meaning.specs.Means.{render_element};
 ghost use Rattle.handlebars_meaning.specs.Runs.{placed_at, named_as};
 ghost use Rattle.handlebars_meaning.specs.Steps.{Whole, perform};
 ghost use Rattle.handlebars_render.specs.Boxed.{error_of};
 ghost use Rattle.handlebars_render.specs.Judgement.{Carries, Stays};
-ghost use Rattle.handlebars_render.specs.View.{HasNodes};
+ghost use Rattle.handlebars_render.specs.View.{HasNodes, StandsIn};
 
 use crate::boxed::BoxedError;
 use crate::context::RenderContext;
 use crate::element::render_element;
 use crate::environment::Environment;
+use crate::pieces::Spot;
 use crate::registered::Registered;
 use crate::sink::Sink;
-use handlebars_base::output::Output;
-use handlebars_template::template::{Template, TemplateMapping};
+use crate::telling::Telling;
+use handlebars_template::template::{Template, TemplateElement, TemplateMapping};
 use std::alloc::Global;
 
 /// Renders a tree, the first of a run, a body, an inverse or one that is included: its name and its elements. A refusal takes
 /// the position of its element, and the name, where none is known yet. Where 2^64 trees are rendered one within another, memory
 /// counts as gone: so a run ends.
 #[cycle(render)]
-pub fn render_tree<'a, O: Output, P: Registered>(
+pub fn render_tree<'a, O, T: Telling<O>, P: Registered>(
     template: &'a Template,
     environment: &Environment<'_, 'a, P>,
     rc: &mut RenderContext,
-    sink: &mut Sink<'_, O>,
+    sink: &mut Sink<'_, O, T>,
 ) -> Result<(), BoxedError>
     requires nodes { HasNodes environment.now rc.old }
-    ensures renders { (at : TreeSite) → Carries P.parts O.held O.may_give environment.now rc sink result
+    ensures renders { (at : TreeSite) → StandsIn T.way.asks environment.now at → Carries P.parts T.way environment.now rc sink result
         (perform (Whole at (tree_view template.now))) }
     ensures stays { Stays rc sink }
 {
@@ -45,12 +47,43 @@ pub fn render_tree<'a, O: Output, P: Registered>(
     };
     rc.enter(&template.name)?;
     'elements: for (index, element) in template.elements.iter().enumerate() {
-        if let Err(e) = render_element(element, &nearer, rc, sink) {
+        if let Err(e) = render_placed(element, &template.mapping, index, &nearer, rc, sink) {
             let placed = placed(e, template.mapping.get(index));
             return Err(named(environment.alloc, placed, &template.name));
         }
     }
     Ok(())
+}
+
+// Renders the element of this index, at its place, where pieces are told. Else that isn't looked up.
+#[inline(always)]
+#[cycle(render)]
+fn render_placed<'a, O, T: Telling<O>, P: Registered>(
+    element: &'a TemplateElement,
+    mapping: &Vec<TemplateMapping>,
+    index: usize,
+    environment: &Environment<'_, 'a, P>,
+    rc: &mut RenderContext,
+    sink: &mut Sink<'_, O, T>,
+) -> Result<(), BoxedError>
+    requires nodes { HasNodes environment.now rc.old }
+    ensures renders { (at : TreeSite) → StandsIn T.way.asks environment.now at → Carries P.parts T.way environment.now rc sink result
+        (render_element (element_in at index (slice_get (map place_of mapping.now.items) index)) (element_view element.now)) }
+    ensures stays { Stays rc sink }
+{
+    if !T::asks() {
+        return render_element(element, environment, rc, sink);
+    }
+    let place = mapping.get(index);
+    let spot = Spot {
+        place,
+        ..*environment.spot
+    };
+    let nearer = Environment {
+        spot: &spot,
+        ..*environment
+    };
+    render_element(element, &nearer, rc, sink)
 }
 
 /// With the position of an element, where it has one and none is known yet.

@@ -1,29 +1,35 @@
 //! Writing texts and values where the rendering writes, by the line's state and the indentation in force.
 
-ghost use Rattle.std.specs.Prelude.{◌≡◌, IfOk, OnErr, None, Some, option_map, string_bytes, unwrap_or, false, true};
+ghost use Rattle.std.specs.Prelude.{◌≡◌, ◌∷◌, [], ℕ, IfOk, List, OnErr, Some, false, option_map, string_bytes, true, unwrap_or};
 ghost use Rattle.serde_json.specs.Data.{null, number, unsigned};
 ghost use Rattle.serde_json.specs.View.{view};
 ghost use Rattle.handlebars_base.specs.Scoped as scoped;
-ghost use Rattle.handlebars_base.specs.Scoped.{Found, present_in};
+ghost use Rattle.handlebars_base.specs.Scoped.{Found, path_in, present_in};
 ghost use Rattle.handlebars_base.specs.Shown.{escaped_if, shown};
 ghost use Rattle.handlebars_base.specs.Values as values;
 ghost use Rattle.handlebars_helpers.specs.Escaping.{by_own};
 ghost use Rattle.handlebars_helpers.specs.EscapeView.{escaping_of};
 ghost use Rattle.handlebars_helpers.specs.OwnView.{IsOneOf};
+ghost use Rattle.handlebars_helpers.specs.View.{path_view};
+ghost use Rattle.handlebars_meaning.specs.Pieces.{Piece, of_step, of_text, of_word, pieces_of};
 ghost use Rattle.handlebars_meaning.specs.Sites.{Site};
 ghost use Rattle.handlebars_meaning.specs.Writing as meaning;
 ghost use Rattle.handlebars_meaning.specs.Writing.{rendered_if_any};
 ghost use Rattle.handlebars_render.specs.Boxed.{answer_of};
 ghost use Rattle.handlebars_render.specs.Shows.{entities_by};
-ghost use Rattle.handlebars_render.specs.Judgement.{AtMoment, Carries};
-ghost use Rattle.handlebars_render.specs.View.{setting_in, state_of, moment, first_moment, Within, CarriesOn, IsKept, KeptIn, within, held_in, IsSame};
-ghost use Rattle.handlebars_render.specs.Writes.{Puts, TellsLine, WritesAsIs};
+ghost use Rattle.handlebars_render.specs.Judgement.{AtMoment, CarriesWith};
+ghost use Rattle.handlebars_render.specs.View.{AreKept, CarriesOn, IsKept, IsSame, KeptIn, Stands, Within, first_moment, held_in, moment, setting_in, state_of, within};
+ghost use Rattle.handlebars_render.specs.Writes.{Puts, PutsText, TellsLine, WritesAsIs, WritesText};
 
+use crate::ahead::Kept;
 use crate::boxed::BoxedError;
 use crate::context::RenderContext;
 use crate::environment::Environment;
+use crate::pieces::PieceKind;
 use crate::registered::Registered;
 use crate::sink::Sink;
+use crate::tell::{tell_kept, tell_step, tell_text, tell_value, tell_word};
+use crate::telling::Telling;
 use handlebars_base::error::RenderError;
 use handlebars_base::json::value::{Json, JsonRender};
 use handlebars_base::output::{Output, output_fault};
@@ -38,7 +44,8 @@ pub fn indent_aware_write<O: Output>(
     rc: &mut RenderContext,
     out: &mut O,
 ) -> Result<(), RenderError>
-    ensures puts { Puts text.now O.may_give (first_moment rc.old (O.held out.old)) result (first_moment rc.new (O.held out.new)) }
+    ensures puts { PutsText text.now O.may_give (first_moment rc.old (O.held out.old)) result
+        (first_moment rc.new (O.held out.new)) }
     ensures kept { IsKept rc.old rc.new }
     ensures fault { OnErr result (rc.new ≡ rc.old) }
 {
@@ -54,17 +61,27 @@ pub fn indent_aware_write<O: Output>(
 // ---- texts
 
 /// Writes a text, and takes note of the line behind it.
-pub(super) fn write_text<O: Output, P>(
+pub(super) fn write_text<O, T: Telling<O>, P>(
     environment: &Environment<P>,
     text: &str,
     rc: &mut RenderContext,
-    sink: &mut Sink<'_, O>,
+    sink: &mut Sink<'_, O, T>,
 ) -> Result<(), BoxedError>
-    ensures puts { (kept : KeptIn (within environment.now)) → Puts text.now O.may_give
-        (moment kept rc.old (held_in O.held sink.old)) (answer_of result) (moment kept rc.new (held_in O.held sink.new)) }
+    ensures puts { (site : Site) → Stands T.way.asks environment.now site → (kept : KeptIn (within environment.now))
+        → Puts (of_text site) text.now T.way.may_give
+        (moment kept rc.old (held_in T.way sink.old)) (answer_of result) (moment kept rc.new (held_in T.way sink.new)) }
     ensures same { IsSame sink.old sink.new }
     ensures kept { IsKept rc.old rc.new }
 {
+    if T::asks() {
+        return match tell_text(environment, PieceKind::TemplateText, None, text, rc, sink) {
+            Ok(line) => {
+                rc.set_line(line);
+                Ok(())
+            }
+            Err(e) => Err(e),
+        };
+    }
     match environment.indent {
         // As most are.
         None => match write_as_is(environment.alloc, text, sink) {
@@ -87,17 +104,18 @@ pub(super) fn write_text<O: Output, P>(
 // Writes a text under an indentation, with entities or without, and answers the line behind it.
 #[cold]
 #[inline(never)]
-fn write_text_under<O: Output>(
+fn write_text_under<O, T: Telling<O>>(
     alloc: Global,
     entities: bool,
     text: &str,
     indent: &str,
     rc: &RenderContext,
-    sink: &mut Sink<'_, O>,
+    sink: &mut Sink<'_, O, T>,
 ) -> Result<LineState, BoxedError>
+    requires untold { T.way.asks ≡ false }
     ensures puts { (a : Within) (kept : KeptIn a) → a.indent ≡ Some indent.now
-        → TellsLine (Puts (escaped_if entities text.now) O.may_give) (moment kept rc.now (held_in O.held sink.old))
-        (answer_of result) (held_in O.held sink.new) }
+        → TellsLine (PutsText (escaped_if entities text.now) T.way.may_give) (moment kept rc.now (held_in T.way sink.old))
+        (answer_of result) (held_in T.way sink.new) }
     ensures same { IsSame sink.old sink.new }
 {
     match sink.write_in_line(alloc, rc.line(), text, indent, entities) {
@@ -112,21 +130,28 @@ fn write_text_under<O: Output>(
 /// Writes a value, rendered, and escaped as the registry has it where escaping is on, and answers the line behind
 /// it. The value may be one of a block, so the context is left to the caller.
 #[inline(always)]
-pub(super) fn write_found<O: Output, P: Registered>(
+pub(super) fn write_found<O, T: Telling<O>, P: Registered>(
     environment: &Environment<P>,
     value: Option<&Json>,
+    path: Option<&Vec<String>>,
     rc: &RenderContext,
-    sink: &mut Sink<'_, O>,
+    sink: &mut Sink<'_, O, T>,
 ) -> Result<LineState, BoxedError>
-    ensures shows { (site : Site) (kept : KeptIn (within environment.now)) (found : Found)
+    ensures shows { (site : Site) → Stands T.way.asks environment.now site → (kept : KeptIn (within environment.now)) (found : Found)
         → rendered_if_any (present_in found) ≡ rendered_if_any (option_map (λ v. view v.now) value.entry)
-        → TellsLine (CarriesOn (setting_in P.parts environment.now) (meaning.write_value site found) O.may_give)
-        (moment kept rc.now (held_in O.held sink.old)) (answer_of result) (held_in O.held sink.new) }
+        → (T.way.asks ≡ true → path_in found ≡ path_view path.entry)
+        → TellsLine (CarriesOn (setting_in P.parts environment.now) (meaning.write_value site found) T.way.may_give)
+        (moment kept rc.now (held_in T.way sink.old)) (answer_of result) (held_in T.way sink.new) }
     ensures same { IsSame sink.old sink.new }
 {
     match entities_by(environment.parts.escape(), rc.escapes()) {
-        Some(entities) => write_by(environment, entities, value, rc, sink),
-        None => write_escaped(environment, value, rc, sink),
+        Some(entities) => {
+            if T::asks() {
+                return tell_value(environment, entities, value, path, rc, sink);
+            }
+            write_by(environment, entities, value, rc, sink)
+        }
+        None => write_escaped(environment, value, path, rc, sink),
     }
 }
 
@@ -144,16 +169,17 @@ fn entities_by(escaping: Escaping, escapes: bool) -> Option<bool>
 
 // Writes a value, with entities or without; nothing where there is none.
 #[inline(always)]
-fn write_by<O: Output, P>(
+fn write_by<O, T: Telling<O>, P>(
     environment: &Environment<P>,
     entities: bool,
     value: Option<&Json>,
     rc: &RenderContext,
-    sink: &mut Sink<'_, O>,
+    sink: &mut Sink<'_, O, T>,
 ) -> Result<LineState, BoxedError>
-    ensures puts { AtMoment O.held environment.now rc.now sink
-        (λ before held. TellsLine (Puts (escaped_if entities (rendered_if_any (option_map (λ v. view v.now) value.entry)))
-        O.may_give) before (answer_of result) held) }
+    requires untold { T.way.asks ≡ false }
+    ensures puts { AtMoment T.way environment.now rc.now sink
+        (λ before held. TellsLine (PutsText (escaped_if entities (rendered_if_any (option_map (λ v. view v.now) value.entry)))
+        T.way.may_give) before (answer_of result) held) }
     ensures same { IsSame sink.old sink.new }
 {
     match value {
@@ -164,15 +190,16 @@ fn write_by<O: Output, P>(
 
 // Without an indentation piece by piece.
 #[inline(always)]
-fn write_value<O: Output, P>(
+fn write_value<O, T: Telling<O>, P>(
     environment: &Environment<P>,
     entities: bool,
     value: &Json,
     rc: &RenderContext,
-    sink: &mut Sink<'_, O>,
+    sink: &mut Sink<'_, O, T>,
 ) -> Result<LineState, BoxedError>
-    ensures puts { AtMoment O.held environment.now rc.now sink
-        (λ before held. TellsLine (Puts (shown entities (view value.now)) O.may_give) before (answer_of result) held) }
+    requires untold { T.way.asks ≡ false }
+    ensures puts { AtMoment T.way environment.now rc.now sink
+        (λ before held. TellsLine (PutsText (shown entities (view value.now)) T.way.may_give) before (answer_of result) held) }
     ensures same { IsSame sink.old sink.new }
 {
     match environment.indent {
@@ -186,17 +213,18 @@ fn write_value<O: Output, P>(
 
 // Under an indentation a text is written line by line. Another value is rendered first.
 #[inline(never)]
-fn write_value_under<O: Output>(
+fn write_value_under<O, T: Telling<O>>(
     alloc: Global,
     entities: bool,
     value: &Json,
     indent: &str,
     rc: &RenderContext,
-    sink: &mut Sink<'_, O>,
+    sink: &mut Sink<'_, O, T>,
 ) -> Result<LineState, BoxedError>
+    requires untold { T.way.asks ≡ false }
     ensures puts { (a : Within) (kept : KeptIn a) → a.indent ≡ Some indent.now
-        → TellsLine (Puts (shown entities (view value.now)) O.may_give) (moment kept rc.now (held_in O.held sink.old))
-        (answer_of result) (held_in O.held sink.new) }
+        → TellsLine (PutsText (shown entities (view value.now)) T.way.may_give) (moment kept rc.now (held_in T.way sink.old))
+        (answer_of result) (held_in T.way sink.new) }
     ensures same { IsSame sink.old sink.new }
 {
     match value {
@@ -210,34 +238,43 @@ fn write_value_under<O: Output>(
 
 // Writes what the escape function of one's own answers for a value.
 #[inline(never)]
-fn write_escaped<O: Output, P: Registered>(
+fn write_escaped<O, T: Telling<O>, P: Registered>(
     environment: &Environment<P>,
     value: Option<&Json>,
+    path: Option<&Vec<String>>,
     rc: &RenderContext,
-    sink: &mut Sink<'_, O>,
+    sink: &mut Sink<'_, O, T>,
 ) -> Result<LineState, BoxedError>
-    ensures shows { (site : Site) (kept : KeptIn (within environment.now)) (found : Found)
+    ensures shows { (site : Site) → Stands T.way.asks environment.now site → (kept : KeptIn (within environment.now)) (found : Found)
         → rendered_if_any (present_in found) ≡ rendered_if_any (option_map (λ v. view v.now) value.entry)
+        → (T.way.asks ≡ true → path_in found ≡ path_view path.entry)
         → by_own ≡ (P.parts environment.now.parts.now).escape → (state_of rc.now).escapes ≡ true
-        → TellsLine (CarriesOn (setting_in P.parts environment.now) (meaning.write_value site found) O.may_give)
-        (moment kept rc.now (held_in O.held sink.old)) (answer_of result) (held_in O.held sink.new) }
+        → TellsLine (CarriesOn (setting_in P.parts environment.now) (meaning.write_value site found) T.way.may_give)
+        (moment kept rc.now (held_in T.way sink.old)) (answer_of result) (held_in T.way sink.new) }
     ensures same { IsSame sink.old sink.new }
 {
     match escaped(environment, value) {
-        Ok(text) => write_line(environment, text.as_str(), rc, sink),
+        Ok(text) => {
+            if T::asks() {
+                let kind = PieceKind::EscapedValue;
+                return tell_text(environment, kind, path, text.as_str(), rc, sink);
+            }
+            write_line(environment, text.as_str(), rc, sink)
+        }
         Err(e) => Err(BoxedError::new(environment.alloc, e)),
     }
 }
 
 // Writes what the escape function answered, and answers the line behind it.
-fn write_line<O: Output, P>(
+fn write_line<O, T: Telling<O>, P>(
     environment: &Environment<P>,
     answer: &str,
     rc: &RenderContext,
-    sink: &mut Sink<'_, O>,
+    sink: &mut Sink<'_, O, T>,
 ) -> Result<LineState, BoxedError>
-    ensures puts { AtMoment O.held environment.now rc.now sink
-        (λ before held. TellsLine (Puts answer.now O.may_give) before (answer_of result) held) }
+    requires untold { T.way.asks ≡ false }
+    ensures puts { AtMoment T.way environment.now rc.now sink
+        (λ before held. TellsLine (PutsText answer.now T.way.may_give) before (answer_of result) held) }
     ensures same { IsSame sink.old sink.new }
 {
     match environment.indent {
@@ -273,18 +310,18 @@ fn whole(alloc: Global, value: Option<&Json>) -> Result<String, AllocError>
 }
 
 /// Writes a value that a helper chose, as one that has no path; a missing one counts as null.
-pub(super) fn write_chosen<O: Output, P: Registered>(
+pub(super) fn write_chosen<O, T: Telling<O>, P: Registered>(
     environment: &Environment<P>,
     value: Option<&Json>,
     rc: &mut RenderContext,
-    sink: &mut Sink<'_, O>,
+    sink: &mut Sink<'_, O, T>,
 ) -> Result<(), BoxedError>
-    ensures shows { (site : Site) → Carries P.parts O.held O.may_give environment.now rc sink result
-        (meaning.write_value site (scoped.value (unwrap_or (option_map (λ v. view v.now) value.entry) null))) }
+    ensures shows { (site : Site) → Stands T.way.asks environment.now site → (kept : KeptIn (within environment.now))
+        → CarriesWith P.parts T.way environment.now rc sink result kept (meaning.write_value site (scoped.value (unwrap_or (option_map (λ v. view v.now) value.entry) null))) }
     ensures same { IsSame sink.old sink.new }
     ensures kept { IsKept rc.old rc.new }
 {
-    match write_found(environment, value, rc, sink) {
+    match write_found(environment, value, None, rc, sink) {
         Ok(line) => {
             rc.set_line(line);
             Ok(())
@@ -294,14 +331,14 @@ pub(super) fn write_chosen<O: Output, P: Registered>(
 }
 
 /// Writes a number that a helper chose.
-pub(super) fn write_count<O: Output, P: Registered>(
+pub(super) fn write_count<O, T: Telling<O>, P: Registered>(
     environment: &Environment<P>,
     count: usize,
     rc: &mut RenderContext,
-    sink: &mut Sink<'_, O>,
+    sink: &mut Sink<'_, O, T>,
 ) -> Result<(), BoxedError>
-    ensures shows { (site : Site) → Carries P.parts O.held O.may_give environment.now rc sink result
-        (meaning.write_value site (scoped.value (number (unsigned count)))) }
+    ensures shows { (site : Site) → Stands T.way.asks environment.now site → (kept : KeptIn (within environment.now))
+        → CarriesWith P.parts T.way environment.now rc sink result kept (meaning.write_value site (scoped.value (number (unsigned count)))) }
     ensures same { IsSame sink.old sink.new }
     ensures kept { IsKept rc.old rc.new }
 {
@@ -311,15 +348,48 @@ pub(super) fn write_count<O: Output, P: Registered>(
 
 // ---- texts that the line takes no note of
 
-/// Writes a text as it is, whatever the line and the escaping: of a step, or one that is kept. Its callers recurse, and have
-/// no room for what it needs.
+/// Writes the text of a step as it is, whatever the line and the escaping.
+pub(super) fn write_step<O, T: Telling<O>, P>(
+    environment: &Environment<P>,
+    text: &str,
+    sink: &mut Sink<'_, O, T>,
+) -> Result<(), BoxedError>
+    ensures writes { (site : Site) → Stands T.way.asks environment.now site → (i : ℕ)
+        → WritesAsIs (pieces_of (of_step site i) text.now) false T.way.may_give
+        (held_in T.way sink.old) (answer_of result) (held_in T.way sink.new) }
+    ensures same { IsSame sink.old sink.new }
+{
+    if T::asks() {
+        return tell_step(environment, text, sink);
+    }
+    write_as_is(environment.alloc, text, sink)
+}
+
+/// Writes what is kept as it is, whatever the line.
+pub(super) fn write_kept<O, T: Telling<O>>(
+    alloc: Global,
+    kept: &Kept,
+    sink: &mut Sink<'_, O, T>,
+) -> Result<(), BoxedError>
+    ensures writes { (ps : List Piece) → AreKept T.way.asks (Some ps) (Some kept.now)
+        → WritesAsIs ps false T.way.may_give (held_in T.way sink.old) (answer_of result) (held_in T.way sink.new) }
+    ensures same { IsSame sink.old sink.new }
+{
+    if T::asks() {
+        return tell_kept(alloc, kept, sink);
+    }
+    write_as_is(alloc, kept.text.as_str(), sink)
+}
+
+// Writes a text as it is. Its callers recurse, and have no room for what it needs.
 #[inline(never)]
-pub(super) fn write_as_is<O: Output>(
+fn write_as_is<O, T: Telling<O>>(
     alloc: Global,
     text: &str,
-    sink: &mut Sink<'_, O>,
+    sink: &mut Sink<'_, O, T>,
 ) -> Result<(), BoxedError>
-    ensures puts { WritesAsIs text.now false O.may_give (held_in O.held sink.old) (answer_of result) (held_in O.held sink.new) }
+    requires untold { T.way.asks ≡ false }
+    ensures writes { WritesText text.now false T.way.may_give (held_in T.way sink.old) (answer_of result) (held_in T.way sink.new) }
     ensures same { IsSame sink.old sink.new }
 {
     sink.write(alloc, false, text)
@@ -328,19 +398,24 @@ pub(super) fn write_as_is<O: Output>(
 /// Writes the word of a boolean helper, as it is, whatever the line. Its callers recurse, and have no room for
 /// what it needs.
 #[inline(never)]
-pub(super) fn write_word<O: Output>(
-    alloc: Global,
+pub(super) fn write_word<O, T: Telling<O>, P>(
+    environment: &Environment<P>,
     word: bool,
-    sink: &mut Sink<'_, O>,
+    sink: &mut Sink<'_, O, T>,
 ) -> Result<(), BoxedError>
-    ensures puts { WritesAsIs (values.word word) true O.may_give (held_in O.held sink.old) (answer_of result)
-        (held_in O.held sink.new) }
+    ensures writes { (site : Site) → Stands T.way.asks environment.now site
+        → WritesAsIs (record { origin = of_word site word; text = values.word word } ∷ []) true T.way.may_give
+        (held_in T.way sink.old) (answer_of result) (held_in T.way sink.new) }
     ensures same { IsSame sink.old sink.new }
 {
-    sink.write(alloc, true, word_text(word))
+    if T::asks() {
+        return tell_word(environment, word, sink);
+    }
+    sink.write(environment.alloc, true, word_text(word))
 }
 
-fn word_text(word: bool) -> &'static str
+/// What a boolean helper says.
+pub(super) fn word_text(word: bool) -> &'static str
     ensures { result.now ≡ values.word word }
 {
     if word { "true" } else { "false" }

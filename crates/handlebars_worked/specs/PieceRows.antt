@@ -126,10 +126,10 @@ abbrev pub outer_site : Site
 outer_site = element_in first_tree 0 (Some (at 1 1))
 
 abbrev pub inner_site : Site
-inner_site = element_in (body_at outer_site (as_turn 0)) 0 (Some (at 1 12))
+inner_site = element_in (body_at outer_site (as_turn 0 0)) 0 (Some (at 1 12))
 
 abbrev pub value_site : ℕ → Site
-value_site i = element_in (body_at inner_site (as_turn i)) 0 (Some (at 1 26))
+value_site i = element_in (body_at inner_site (as_turn i i)) 0 (Some (at 1 26))
 
 abbrev pub number_path : Text → List Text
 number_path i = codes "a" ∷ codes "0" ∷ i ∷ []
@@ -138,7 +138,7 @@ abbrev pub turns_pieces : List Piece
 turns_pieces =
     from (of_value (value_site 0) (walked (natural 7) (number_path (codes "0")))) (codes "7")
     ∷ from (of_value (value_site 1) (walked (natural 8) (number_path (codes "1")))) (codes "8")
-    ∷ from (of_text (element_in (body_at outer_site (as_turn 0)) 1 (Some (at 1 43)))) (codes ";")
+    ∷ from (of_text (element_in (body_at outer_site (as_turn 0 0)) 1 (Some (at 1 43)))) (codes ";")
     ∷ []
 
 abbrev pub TurnsRow : Type 0

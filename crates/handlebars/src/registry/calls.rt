@@ -205,7 +205,7 @@ impl<E: OwnParts> RegistryOf<E> {
     }
 
     // The template that is rendered under the name, with the trees that were read.
-    fn template_named<'a>(
+    pub(crate) fn template_named<'a>(
         &'a self,
         name: &str,
         read: &'a BTreeMap<String, Template>,

@@ -23,6 +23,7 @@ use handlebars_render::boxed::BoxedError;
 use handlebars_render::context::RenderContext;
 use handlebars_render::entry::render_into;
 use handlebars_render::environment::outside;
+use handlebars_render::pieces::Spot;
 use handlebars_scope::context::Context;
 use handlebars_scope::context::bases::Bases;
 use handlebars_template::template::Template;
@@ -145,7 +146,8 @@ fn render_to<E: OwnParts, L: Log, O: Output, X: PlainError>(
         read,
         log,
     };
-    let environment = outside(registry.alloc, parts, ctx, &Bases::Outside);
+    let spot = Spot::first();
+    let environment = outside(registry.alloc, parts, ctx, &Bases::Outside, &spot);
     match render_into(template, &environment, rc, out) {
         Ok(()) => Ok(()),
         Err(error) => Err(X::of(error)),

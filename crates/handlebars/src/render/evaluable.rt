@@ -19,6 +19,7 @@ use handlebars_render::context::RenderContext;
 use handlebars_render::environment::outside;
 use handlebars_render::evaluate::{eval_element, eval_tree};
 use handlebars_render::failure::{fail_after, ready};
+use handlebars_render::pieces::Spot;
 use handlebars_scope::context::Context;
 use handlebars_scope::context::bases::Bases;
 use handlebars_template::template::{Template, TemplateElement};
@@ -76,7 +77,8 @@ impl Evaluable for Template {
             read: &NoTrees,
             log,
         };
-        let environment = outside(alloc, parts, data, &Bases::Outside);
+        let spot = Spot::first();
+        let environment = outside(alloc, parts, data, &Bases::Outside, &spot);
         match eval_tree(self, &environment, rc) {
             Ok(()) => Ok(()),
             Err(e) => fail_after(rc, Err(e.into_error())),
@@ -105,7 +107,8 @@ impl Evaluable for TemplateElement {
             read: &NoTrees,
             log,
         };
-        let environment = outside(alloc, parts, data, &Bases::Outside);
+        let spot = Spot::first();
+        let environment = outside(alloc, parts, data, &Bases::Outside, &spot);
         match eval_element(self, &environment, rc) {
             Ok(()) => Ok(()),
             Err(e) => fail_after(rc, Err(e.into_error())),

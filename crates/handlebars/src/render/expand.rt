@@ -19,6 +19,7 @@ use handlebars_helpers::entries::OwnParts;
 use handlebars_render::context::RenderContext;
 use handlebars_render::environment::outside;
 use handlebars_render::failure::{fail_after, ready};
+use handlebars_render::pieces::Spot;
 use handlebars_render::value;
 use handlebars_scope::context::Context;
 use handlebars_scope::context::bases::Bases;
@@ -90,7 +91,7 @@ impl Expand for Parameter {
             read: &NoTrees,
             log,
         };
-        match value::expand(&outside(alloc, parts, data, &Bases::Outside), rc, self) {
+        match value::expand(&outside(alloc, parts, data, &Bases::Outside, &Spot::first()), rc, self) {
             Ok(value) => fail_after(rc, Ok(value)),
             Err(e) => fail_after(rc, Err(e.into_error())),
         }
@@ -110,7 +111,7 @@ impl Expand for Parameter {
             read: &NoTrees,
             log,
         };
-        match value::expand_as_name(&outside(alloc, parts, data, &Bases::Outside), rc, self) {
+        match value::expand_as_name(&outside(alloc, parts, data, &Bases::Outside, &Spot::first()), rc, self) {
             Ok(name) => fail_after(rc, Ok(name)),
             Err(e) => fail_after(rc, Err(e.into_error())),
         }

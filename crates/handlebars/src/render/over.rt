@@ -19,6 +19,7 @@ use handlebars_render::context::RenderContext;
 use handlebars_render::entry::render_into;
 use handlebars_render::environment::outside;
 use handlebars_render::failure::{fail_after, ready};
+use handlebars_render::pieces::Spot;
 use handlebars_scope::context::Context;
 use handlebars_scope::context::bases::Bases;
 use handlebars_template::template::Template;
@@ -56,7 +57,8 @@ pub fn render_over<E: OwnParts, T: Trees, L: Log, O: Output>(
         read,
         log,
     };
-    let environment = outside(alloc, parts, data, &Bases::Outside);
+    let spot = Spot::first();
+    let environment = outside(alloc, parts, data, &Bases::Outside, &spot);
     match render_into(template, &environment, rc, out) {
         Ok(()) => Ok(()),
         Err(e) => fail_after(rc, Err(e.into_error())),

@@ -21,6 +21,7 @@ use handlebars_render::context::RenderContext;
 use handlebars_render::entry::include_into;
 use handlebars_render::environment::outside;
 use handlebars_render::failure::{fail_after, ready};
+use handlebars_render::pieces::Spot;
 use handlebars_scope::context::Context;
 use handlebars_scope::context::bases::Bases;
 use log::Log;
@@ -55,7 +56,8 @@ pub fn expand_partial<E: OwnParts, L: Log, O: Output>(
         read: &NoTrees,
         log,
     };
-    let environment = outside(alloc, parts, data, &Bases::Outside);
+    let spot = Spot::first();
+    let environment = outside(alloc, parts, data, &Bases::Outside, &spot);
     match include_into(d, &environment, rc, out) {
         Ok(()) => Ok(()),
         Err(e) => fail_after(rc, Err(e.into_error())),

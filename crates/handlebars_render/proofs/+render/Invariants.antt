@@ -7,7 +7,7 @@ use Rattle.handlebars_helpers.specs.CallView.{CallView}
 use Rattle.handlebars_helpers.specs.OwnView.{step_of}
 use Rattle.handlebars_helpers.specs.View.{path_view, turns_left}
 use Rattle.handlebars_meaning.specs.CarryOut.{view_with_bodies}
-use Rattle.handlebars_render.specs.View.{setting_in, state_of, moment, held_in, within, HasOuter, IsKept, IsSame, IsUnlent, KeptIn, NearestBelow}
+use Rattle.handlebars_render.specs.View.{setting_in, state_of, moment, held_in, within, HasOuter, IsKept, IsSame, IsUnlent, Keeps, KeptIn, NearestBelow, Stands, StandsIn}
 use Rattle.handlebars_render.proofs.Elements.{Left}
 use Rattle.handlebars_render.proofs.OwnSteps.{StepsLeft}
 use Rattle.handlebars_render.proofs.Turns.{TurnsLeft}
@@ -16,6 +16,9 @@ use Rattle.handlebars_render.proofs.+render.Given as goal
 -- Each tree within another leaves room for one less; from one tree to the next the functions follow in this order.
 abbrev pub decreases-tree::render_tree : goal.decreases-tree::render_tree
 decreases-tree::render_tree g l = 16 * l.environment.now.room
+
+abbrev pub decreases-tree::render_placed : goal.decreases-tree::render_placed
+decreases-tree::render_placed g l = 16 * l.environment.now.room + 15
 
 abbrev pub decreases-element::render_element : goal.decreases-element::render_element
 decreases-element::render_element g l = 16 * l.environment.now.room + 14
@@ -50,6 +53,9 @@ decreases-each::render_each g l = 16 * l.environment.now.room + 8
 abbrev pub decreases-each::take_turns : goal.decreases-each::take_turns
 decreases-each::take_turns g l = 16 * l.environment.now.room + 7
 
+abbrev pub decreases-each::render_turn : goal.decreases-each::render_turn
+decreases-each::render_turn g l = 16 * l.environment.now.room + 6
+
 abbrev pub decreases-steps::take_steps : goal.decreases-steps::take_steps
 decreases-steps::take_steps g l = 16 * l.environment.now.room + 8
 
@@ -82,9 +88,10 @@ decreases-partial::render_ahead g l = 16 * l.environment.now.room + 1
 
 abbrev pub invariant-tree::render_tree-elements : goal.invariant-tree::render_tree-elements
 invariant-tree::render_tree-elements g l = record {
-  left : (at : TreeSite) (kept : KeptIn (within l.environment)) → Left (setting_in g.P.Registered.parts l.environment) g.O.Output.may_give at (map element_view l.element-items)
+  left : (at : TreeSite) → StandsIn g.T.Telling.way.asks l.environment at → (kept : KeptIn (within l.environment)) → Keeps g.T.Telling.way.asks kept
+      → Left (setting_in g.P.Registered.parts l.environment) g.T.Telling.way.may_give at (map element_view l.element-items)
       (map place_of (out-Template l.template).mapping.items) l.index
-      (moment kept l.initial.rc (held_in g.O.Output.held l.initial.sink)) (moment kept l.rc (held_in g.O.Output.held l.sink));
+      (moment kept l.initial.rc (held_in g.T.Telling.way l.initial.sink)) (moment kept l.rc (held_in g.T.Telling.way l.sink));
   same : IsSame l.initial.sink l.sink;
   kept : IsKept l.initial.rc l.rc;
 }
@@ -92,9 +99,10 @@ invariant-tree::render_tree-elements g l = record {
 abbrev pub invariant-each::take_turns-turns : goal.invariant-each::take_turns-turns
 invariant-each::take_turns-turns g l = record {
   number : ℕ;
-  left : (site : Site) (block : Bool) (v : CallView) (kept : KeptIn (within l.environment)) → IsUnlent kept.bases → TurnsLeft (setting_in g.P.Registered.parts l.environment) g.O.Output.may_give
+  left : (site : Site) → Stands g.T.Telling.way.asks l.environment site → (block : Bool) (v : CallView) (kept : KeptIn (within l.environment))
+      → Keeps g.T.Telling.way.asks kept → IsUnlent kept.bases → TurnsLeft (setting_in g.P.Registered.parts l.environment) g.T.Telling.way.may_give
       site number (view_with_bodies block (call_view l.helper) v) (path_view l.path) (turns_left l.initial.left) (turns_left l.left)
-      (moment kept l.initial.rc (held_in g.O.Output.held l.initial.sink)) (moment kept l.rc (held_in g.O.Output.held l.sink));
+      (moment kept l.initial.rc (held_in g.T.Telling.way l.initial.sink)) (moment kept l.rc (held_in g.T.Telling.way l.sink));
   same : IsSame l.initial.sink l.sink;
   outer : HasOuter l.initial.rc l.rc;
   below : l.first ≡ false → NearestBelow (path_view l.path) (state_of l.rc).blocks;
@@ -106,10 +114,11 @@ decreases-each::take_turns-turns g l = length (turns_left l.left)
 abbrev pub invariant-steps::take_steps-steps : goal.invariant-steps::take_steps-steps
 invariant-steps::take_steps-steps g l = record {
   number : ℕ;
-  left : (site : Site) (block : Bool) (v : CallView) (kept : KeptIn (within l.environment)) → StepsLeft (setting_in g.P.Registered.parts l.environment) g.O.Output.may_give
+  left : (site : Site) → Stands g.T.Telling.way.asks l.environment site → (block : Bool) (v : CallView) (kept : KeptIn (within l.environment))
+      → Keeps g.T.Telling.way.asks kept → StepsLeft (setting_in g.P.Registered.parts l.environment) g.T.Telling.way.may_give
       site number (view_with_bodies block (call_view l.helper) v) (map step_of (into_iter_items l.initial.step-iterator))
       (map step_of (into_iter_items l.step-iterator))
-      (moment kept l.initial.rc (held_in g.O.Output.held l.initial.sink)) (moment kept l.rc (held_in g.O.Output.held l.sink));
+      (moment kept l.initial.rc (held_in g.T.Telling.way l.initial.sink)) (moment kept l.rc (held_in g.T.Telling.way l.sink));
   sized : into_iter_len l.step-iterator ≡ length (into_iter_items l.step-iterator);
   same : IsSame l.initial.sink l.sink;
   kept : IsKept l.initial.rc l.rc;

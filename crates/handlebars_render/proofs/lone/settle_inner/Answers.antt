@@ -7,12 +7,12 @@ use Rattle.handlebars_render.proofs.LoneValues.{named-inner, unnamed-inner, valu
 use Rattle.handlebars_render.proofs.lone.settle_inner.Goals as goal
 
 pub returns-in-Ok-clause-comes : goal.returns-in-Ok-clause-comes
-returns-in-Ok-clause-comes g c = λ lone same site kept.
-    c.settle_value.ensures.comes lone site kept
+returns-in-Ok-clause-comes g c = λ lone same site stands kept.
+    c.settle_value.ensures.comes lone site stands kept
     (named-inner _ _ (call_name (call_view c.args.helper.now)) _ (found_of c.in-Ok.value) same (c.in-Ok.ensures.value kept))
     (valued-inner _ _ (call_name (call_view c.args.helper.now)) _ (found_of c.in-Ok.value) same (c.in-Ok.ensures.value kept))
 
 pub returns-in-Err-clause-comes : goal.returns-in-Err-clause-comes
-returns-in-Err-clause-comes g c = λ lone same site kept.
+returns-in-Err-clause-comes g c = λ lone same site stands kept.
     carries_on-refuses _ _ _ (error_of c.in-Err.e) (λ other. refuses-lone _ site (call_view c.args.helper.now)
     (unnamed-inner _ _ (call_name (call_view c.args.helper.now)) _ _ same (c.in-Err.ensures.value kept other)))

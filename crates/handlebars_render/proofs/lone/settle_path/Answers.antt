@@ -1,8 +1,9 @@
-use Rattle.std.proofs.Common.{ap, false, ◌∙◌, refl, sym}
+use Rattle.std.proofs.Common.{ap, false, ◌∙◌, refl, sym, true≢false}
 use Rattle.std.specs.Prelude.{Err, None, Some}
 use Rattle.serde_json.specs.View.{view}
 use Rattle.handlebars_base.specs.Answers.{answer_map}
 use Rattle.handlebars_base.specs.PathView.{reference_of}
+use Rattle.handlebars_base.specs.Path.{raw_of}
 use Rattle.handlebars_base.specs.Scoped.{present_in}
 use Rattle.handlebars_scope.specs.Contexts.{data_of}
 use Rattle.handlebars_base.specs.Reasons.{invalid_json_index}
@@ -21,7 +22,7 @@ use Rattle.handlebars_render.proofs.LoneValues.{named-path, reached-none-as, rea
 use Rattle.handlebars_render.proofs.lone.settle_path.Goals as goal
 
 pub returns-in-Some-clause-comes : goal.returns-in-Some-clause-comes
-returns-in-Some-clause-comes g c = λ lone is site kept.
+returns-in-Some-clause-comes g c = λ lone is site stands kept.
     comes_to-settles _ _ site false (call_view c.args.helper.now) _ _ _ _ (answer_of c.to_call.result) refl
     (settles-call _ site false (call_view c.args.helper.now) _ _ _ (answer_of c.to_call.result) (c.to_call.ensures kept)
     (leaves-named _ site (call_view c.args.helper.now) c.raw.result.now (target_in false c.raw.result.now c.in-Some.target)
@@ -33,16 +34,16 @@ returns-in-Some-clause-comes g c = λ lone is site kept.
     (c.alone.ensures ∙ ap (λ t. name_alone t) (c.raw-in-Some.ensures ∙ sym c.raw.ensures))))
 
 pub returns-in-Value-clause-comes : goal.returns-in-Value-clause-comes
-returns-in-Value-clause-comes g c = λ lone is site kept.
+returns-in-Value-clause-comes g c = λ lone is site stands kept.
     let has = reached-value (setting_in g.P.Registered.parts c.args.environment.now) (state_with kept c.args.rc.now) (call_name (call_view c.args.helper.now)) (reference_of c.args.path.now) (Some (view c.in-Value.value.now)) is ((rw c.data.ensures.value at c.in-Value.ensures)
     ∙ ap (answer_map present_in) (read-lent kept (state_of c.args.rc.now) (data_of c.args.environment.now.given.now) (reference_of c.args.path.now))) in
     comes_to-leaves _ _ site false (call_view c.args.helper.now) _ _ _ _ _ (answer_of c.settle_found.result)
     (leaves-value _ site (call_view c.args.helper.now) c.raw.result.now lone
     (named-path _ _ (call_name (call_view c.args.helper.now)) (reference_of c.args.path.now) _ is c.raw.ensures) (c.in-None.ensures false))
-    (c.settle_found.ensures.comes (call_view c.args.helper.now) (name_alone c.raw.result.now) has.0 site kept has.1 has.2)
+    (c.settle_found.ensures.comes (call_view c.args.helper.now) (name_alone c.raw.result.now) has.0 site stands kept has.1 has.2 (λ on. absurd (true≢false (sym on ∙ (sym c.asks.ensures ∙ c.if-asks.false)))))
 
 pub returns-in-Nothing-clause-comes : goal.returns-in-Nothing-clause-comes
-returns-in-Nothing-clause-comes g c = λ lone is site kept.
+returns-in-Nothing-clause-comes g c = λ lone is site stands kept.
     let has = reached-value (setting_in g.P.Registered.parts c.args.environment.now) (state_with kept c.args.rc.now) (call_name (call_view c.args.helper.now)) (reference_of c.args.path.now) None is ((rw c.data.ensures.value at c.in-Nothing.ensures)
     ∙ ap (answer_map present_in) (read-lent kept (state_of c.args.rc.now) (data_of c.args.environment.now.given.now) (reference_of c.args.path.now))) in
     comes_to-leaves _ _ site false (call_view c.args.helper.now) _ _ _ _ _ (answer_of c.settle_missing.result)
@@ -56,7 +57,7 @@ returns-in-Nothing-clause-comes g c = λ lone is site kept.
     (c.settle_missing.ensures site kept)))
 
 pub returns-in-NoIndex-clause-comes : goal.returns-in-NoIndex-clause-comes
-returns-in-NoIndex-clause-comes g c = λ lone is site kept.
+returns-in-NoIndex-clause-comes g c = λ lone is site stands kept.
     comes_to-leaves _ _ site false (call_view c.args.helper.now) _ _ _ _ _ (answer_of (Err c.not_an_index.result))
     (leaves-value _ site (call_view c.args.helper.now) c.raw.result.now lone
     (named-path _ _ (call_name (call_view c.args.helper.now)) (reference_of c.args.path.now) _ is c.raw.ensures) (c.in-None.ensures false))
@@ -64,3 +65,11 @@ returns-in-NoIndex-clause-comes g c = λ lone is site kept.
     (λ other. reached-none-as (setting_in g.P.Registered.parts c.args.environment.now) (state_with kept c.args.rc.now) (call_name (call_view c.args.helper.now)) (reference_of c.args.path.now)
     (plain_refusal (invalid_json_index c.in-NoIndex.name.now)) _ is ((rw c.data.ensures.value at c.in-NoIndex.ensures)
     ∙ ap (answer_map present_in) (read-lent kept (state_of c.args.rc.now) (data_of c.args.environment.now.given.now) (reference_of c.args.path.now))) (c.not_an_index.ensures other)))
+
+pub returns-then-asks-clause-comes : goal.returns-then-asks-clause-comes
+returns-then-asks-clause-comes g c = λ lone is site stands kept.
+    comes_to-leaves _ _ site false (call_view c.args.helper.now) _ _ _ _ _ (answer_of c.settle_told.result)
+    (leaves-value _ site (call_view c.args.helper.now) (raw_of (reference_of c.args.path.now)) lone
+    (named-path _ _ (call_name (call_view c.args.helper.now)) (reference_of c.args.path.now) _ is refl)
+    (rw c.raw.ensures at (c.in-None.ensures false)))
+    (c.settle_told.ensures.comes site stands is kept)

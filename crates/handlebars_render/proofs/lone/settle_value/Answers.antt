@@ -12,11 +12,11 @@ use Rattle.handlebars_render.proofs.Leaves.{comes_to-leaves, comes_to-no_memory,
 use Rattle.handlebars_render.proofs.lone.settle_value.Goals as goal
 
 pub returns-in_err-name-clause-comes : goal.returns-in_err-name-clause-comes
-returns-in_err-name-clause-comes g c = λ lone site kept named has.
+returns-in_err-name-clause-comes g c = λ lone site stands kept named has.
     comes_to-no_memory _ _ site false (call_view c.args.helper.now) _ _ _ c.from_residual.result c.from_residual.ensures.1
 
 pub returns-in-Some-clause-comes : goal.returns-in-Some-clause-comes
-returns-in-Some-clause-comes g c = λ lone site kept named has.
+returns-in-Some-clause-comes g c = λ lone site stands kept named has.
     comes_to-settles _ _ site false (call_view c.args.helper.now) _ _ _ _ (answer_of c.to_call.result) refl
     (settles-call _ site false (call_view c.args.helper.now) _ _ _ (answer_of c.to_call.result) (c.to_call.ensures kept)
     (leaves-named _ site (call_view c.args.helper.now) (callee_name (found_of c.args.value)) (target_in false c.as_str.result.now c.in-Some.target)
@@ -28,15 +28,15 @@ returns-in-Some-clause-comes g c = λ lone site kept named has.
     (c.alone.ensures ∙ ap (λ t. name_alone t) c.in_ok-name.ensures)))
 
 pub returns-in-Some-as_json-clause-comes : goal.returns-in-Some-as_json-clause-comes
-returns-in-Some-as_json-clause-comes g c = λ lone site kept named has.
+returns-in-Some-as_json-clause-comes g c = λ lone site stands kept named has.
     comes_to-leaves _ _ site false (call_view c.args.helper.now) _ _ _ _ _ (answer_of c.settle_found.result)
     (leaves-value _ site (call_view c.args.helper.now) (callee_name (found_of c.args.value)) lone named
     (c.in-None.ensures false ∙ ap (helper_named (g.P.Registered.parts c.args.environment.now.parts.now) (state_with kept c.args.rc.now)) (c.as_str.ensures.value ∙ c.in_ok-name.ensures)))
     (c.settle_found.ensures.comes (call_view c.args.helper.now) (name_alone (callee_name (found_of c.args.value))) (found_of c.args.value)
-    site kept has (sym c.in-Some-as_json.ensures))
+    site stands kept has (sym c.in-Some-as_json.ensures) (λ on. sym c.context_path.ensures))
 
 pub returns-clause-comes : goal.returns-clause-comes
-returns-clause-comes g c = λ lone site kept named has.
+returns-clause-comes g c = λ lone site stands kept named has.
     let same = c.in_ok-name.ensures in
     comes_to-leaves _ _ site false (call_view c.args.helper.now) _ _ _ _ _ (answer_of c.settle_missing.result)
     (leaves-value _ site (call_view c.args.helper.now) _ lone (rw same named)

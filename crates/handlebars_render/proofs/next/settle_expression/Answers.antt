@@ -5,13 +5,13 @@ use Rattle.handlebars_render.proofs.Leaves.{comes_to-leaves, comes_to-settles, l
 use Rattle.handlebars_render.proofs.next.settle_expression.Goals as goal
 
 pub returns-then-is_value-clause-comes : goal.returns-then-is_value-clause-comes
-returns-then-is_value-clause-comes g c = λ site kept.
+returns-then-is_value-clause-comes g c = λ site stands kept.
     comes_to-leaves _ _ site false (call_view c.args.helper.now) _ _ _ _ _ (answer_of c.settle_lone.result)
     (leaves-lone _ site (call_view c.args.helper.now) c.if-is_value.ensures)
-    (c.settle_lone.ensures.comes (sym c.if-is_value.ensures) site kept)
+    (c.settle_lone.ensures.comes (sym c.if-is_value.ensures) site stands kept)
 
 pub returns-else-is_value-clause-comes : goal.returns-else-is_value-clause-comes
-returns-else-is_value-clause-comes g c = λ site kept.
+returns-else-is_value-clause-comes g c = λ site stands kept.
     comes_to-leaves _ _ site false (call_view c.args.helper.now) _ _ _ _ _ (answer_of c.settle_call.result)
     (leaves-expression _ site (call_view c.args.helper.now) c.if-is_value.ensures)
     (comes_to-settles _ _ site false (call_view c.args.helper.now) _ _ _ _ (answer_of c.settle_call.result) refl (c.settle_call.ensures site kept))

@@ -1,4 +1,4 @@
-use Rattle.std.proofs.Common.{ap, option_map, sym}
+use Rattle.std.proofs.Common.{ap, option_map, refl, sym}
 use Rattle.std.specs.Prelude.{unwrap_or}
 use Rattle.serde_json.specs.Data.{null}
 use Rattle.serde_json.specs.View.{view}
@@ -8,11 +8,11 @@ use Rattle.handlebars_render.proofs.Puts.{rendered-or_null}
 use Rattle.handlebars_render.proofs.write.write_chosen.Goals as goal
 
 pub returns-in-Ok-clause-shows : goal.returns-in-Ok-clause-shows
-returns-in-Ok-clause-shows g c = λ site kept. rw (ap (keeping kept) c.set_line.ensures.state)
-    (c.in-Ok.ensures.shows site kept (value (unwrap_or (option_map (λ v. view v.now) c.args.value) null))
-    (sym (rendered-or_null (option_map (λ v. view v.now) c.args.value))))
+returns-in-Ok-clause-shows g c = λ site stands kept. rw (ap (keeping kept) c.set_line.ensures.state)
+    (c.in-Ok.ensures.shows site stands kept (value (unwrap_or (option_map (λ v. view v.now) c.args.value) null))
+    (sym (rendered-or_null (option_map (λ v. view v.now) c.args.value))) (λ on. refl))
 
 pub returns-in-Err-clause-shows : goal.returns-in-Err-clause-shows
-returns-in-Err-clause-shows g c = λ site kept.
-    c.in-Err.ensures.shows site kept (value (unwrap_or (option_map (λ v. view v.now) c.args.value) null))
-    (sym (rendered-or_null (option_map (λ v. view v.now) c.args.value)))
+returns-in-Err-clause-shows g c = λ site stands kept.
+    c.in-Err.ensures.shows site stands kept (value (unwrap_or (option_map (λ v. view v.now) c.args.value) null))
+    (sym (rendered-or_null (option_map (λ v. view v.now) c.args.value))) (λ on. refl)

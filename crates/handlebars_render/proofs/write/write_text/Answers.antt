@@ -1,21 +1,45 @@
-use Rattle.std.proofs.Common.{ap, option_map}
+use Rattle.std.proofs.Common.{None, ap, option_map, sym, ◌∙◌}
+use Rattle.handlebars_meaning.specs.Pieces.{of_text}
+use Rattle.handlebars_meaning.specs.Told.{template_text}
 use Rattle.handlebars_render.specs.View.{keeping, state_with}
-use Rattle.handlebars_render.proofs.Puts.{plain-at, writes_as}
+use Rattle.handlebars_render.proofs.Puts.{none_told, plain-at, text_as, text_puts}
 use Rattle.handlebars_render.proofs.write.write_text.Goals as goal
 
 pub returns-in-Ok-clause-puts : goal.returns-in-Ok-clause-puts
-returns-in-Ok-clause-puts g c = λ kept. let s = state_with kept c.args.rc.now in
-    writes_as _ (plain-at s c.args.text.now (ap (option_map (λ t. t.now)) c.in-None.is))
-    (ap (keeping kept) c.pass_text.ensures.state) (c.in-Ok.ensures.puts s)
+returns-in-Ok-clause-puts g c = λ site stands kept. rw (ap (keeping kept) c.set_line.ensures.state)
+    (c.in-Ok.ensures.puts kept (of_text site)
+    (ap (λ w. record { kind = template_text; stands = w; path = None }) (stands (sym c.asks.ensures ∙ c.if-asks.true))))
 
 pub returns-in-Err-clause-puts : goal.returns-in-Err-clause-puts
-returns-in-Err-clause-puts g c = λ kept. let s = state_with kept c.args.rc.now in
-    writes_as _ {next = state_with kept c.args.rc.now} (plain-at s c.args.text.now (ap (option_map (λ t. t.now)) c.in-None.is)) tt (c.in-Err.ensures.puts s)
+returns-in-Err-clause-puts g c = λ site stands kept.
+    c.in-Err.ensures.puts kept (of_text site)
+    (ap (λ w. record { kind = template_text; stands = w; path = None }) (stands (sym c.asks.ensures ∙ c.if-asks.true)))
+
+pub returns-in-Ok-write_as_is-clause-puts : goal.returns-in-Ok-write_as_is-clause-puts
+returns-in-Ok-write_as_is-clause-puts g c = λ site stands kept.
+    let off = sym c.asks.ensures ∙ c.if-asks.false in
+    text_puts _ (of_text site) c.args.text.now _ _ _ _ _ (none_told g.T.Telling.way c.args.sink.now off) (none_told g.T.Telling.way c.write_as_is.new.sink off) (
+      ap (keeping kept) c.pass_text.ensures.state,
+      text_as _ (plain-at (state_with kept c.args.rc.now) c.args.text.now (ap (option_map (λ t. t.now)) c.in-None.is)) c.in-Ok-write_as_is.ensures.writes,
+    )
+
+pub returns-in-Err-write_as_is-clause-puts : goal.returns-in-Err-write_as_is-clause-puts
+returns-in-Err-write_as_is-clause-puts g c = λ site stands kept.
+    let off = sym c.asks.ensures ∙ c.if-asks.false in
+    text_puts _ (of_text site) c.args.text.now _ (state_with kept c.args.rc.now) _ _ _ (none_told g.T.Telling.way c.args.sink.now off) (none_told g.T.Telling.way c.write_as_is.new.sink off) (
+      tt,
+      text_as _ (plain-at (state_with kept c.args.rc.now) c.args.text.now (ap (option_map (λ t. t.now)) c.in-None.is)) c.in-Err-write_as_is.ensures.writes,
+    )
 
 pub returns-in-Ok-write_text_under-clause-puts : goal.returns-in-Ok-write_text_under-clause-puts
-returns-in-Ok-write_text_under-clause-puts g c = λ kept. rw (ap (keeping kept) c.set_line.ensures.state)
-    (c.in-Ok-write_text_under.ensures.puts _ kept (ap (option_map (λ t. t.now)) c.in-Some.is))
+returns-in-Ok-write_text_under-clause-puts g c = λ site stands kept.
+    let off = sym c.asks.ensures ∙ c.if-asks.false in
+    rw (ap (keeping kept) c.set_line-in-Ok-write_text_under.ensures.state)
+    (text_puts _ (of_text site) c.args.text.now _ _ _ _ _ (none_told g.T.Telling.way c.args.sink.now off) (none_told g.T.Telling.way c.write_text_under.new.sink off)
+    (c.in-Ok-write_text_under.ensures.puts _ kept (ap (option_map (λ t. t.now)) c.in-Some.is)))
 
 pub returns-in-Err-write_text_under-clause-puts : goal.returns-in-Err-write_text_under-clause-puts
-returns-in-Err-write_text_under-clause-puts g c = λ kept.
-    c.in-Err-write_text_under.ensures.puts _ kept (ap (option_map (λ t. t.now)) c.in-Some.is)
+returns-in-Err-write_text_under-clause-puts g c = λ site stands kept.
+    let off = sym c.asks.ensures ∙ c.if-asks.false in
+    text_puts _ (of_text site) c.args.text.now _ _ _ _ _ (none_told g.T.Telling.way c.args.sink.now off) (none_told g.T.Telling.way c.write_text_under.new.sink off)
+    (c.in-Err-write_text_under.ensures.puts _ kept (ap (option_map (λ t. t.now)) c.in-Some.is))

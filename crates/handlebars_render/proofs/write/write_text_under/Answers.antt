@@ -3,20 +3,22 @@ use Rattle.handlebars_base.specs.Shown.{escaped_if}
 use Rattle.handlebars_scope.specs.LineView.{line_of}
 use Rattle.handlebars_scope.specs.LineState.{LineState, line_behind}
 use Rattle.handlebars_render.specs.View.{state_with, with_line}
-use Rattle.handlebars_render.proofs.Puts.{behind-if, under-at, writes_as}
+use Rattle.handlebars_render.proofs.Puts.{behind-if, text_as, under-at}
 use Rattle.handlebars_render.proofs.write.write_text_under.Goals as goal
 
 pub returns-in-Ok-clause-puts : goal.returns-in-Ok-clause-puts
 returns-in-Ok-clause-puts g c = λ a kept is.
     let t = escaped_if c.args.entities c.args.text.now in
-    let s = state_with kept c.args.rc.now in
-    writes_as _ (under-at s t c.args.indent.now (line_of c.line.result) is c.line.ensures)
-    (ap (λ (z : LineState). with_line z s) (c.behind.ensures ∙ behind-if c.args.entities c.args.text.now (line_of c.line-in-Ok.result)
-    ∙ ap (λ (z : LineState). line_behind t z) c.line-in-Ok.ensures))
-    (c.in-Ok.ensures.writes s)
+    let s = state_with kept c.args.rc.now in (
+      ap (λ (z : LineState). with_line z s) (c.behind.ensures ∙ behind-if c.args.entities c.args.text.now (line_of c.line-in-Ok.result)
+          ∙ ap (λ (z : LineState). line_behind t z) c.line-in-Ok.ensures),
+      text_as _ (under-at s t c.args.indent.now (line_of c.line.result) is c.line.ensures) c.in-Ok.ensures.writes,
+    )
 
 pub returns-in-Err-clause-puts : goal.returns-in-Err-clause-puts
 returns-in-Err-clause-puts g c = λ a kept is.
-    let s = state_with kept c.args.rc.now in
-    writes_as _ {next = s} (under-at s (escaped_if c.args.entities c.args.text.now) c.args.indent.now (line_of c.line.result) is c.line.ensures)
-    tt (c.in-Err.ensures.writes s)
+    let s = state_with kept c.args.rc.now in (
+      tt,
+      text_as _ (under-at s (escaped_if c.args.entities c.args.text.now) c.args.indent.now (line_of c.line.result) is c.line.ensures)
+          c.in-Err.ensures.writes,
+    )

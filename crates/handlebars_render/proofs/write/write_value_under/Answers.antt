@@ -2,7 +2,7 @@ use Rattle.serde_json.specs.View.{view}
 use Rattle.handlebars_base.specs.Shown.{shown}
 use Rattle.handlebars_base.proofs.ShownValues.{rendered-string}
 use Rattle.handlebars_render.specs.View.{state_with}
-use Rattle.handlebars_render.proofs.Puts.{puts-no_memory}
+use Rattle.handlebars_render.proofs.Puts.{text-no_memory}
 use Rattle.handlebars_render.proofs.write.write_value_under.Goals as goal
 
 pub returns-in-String-clause-puts : goal.returns-in-String-clause-puts
@@ -11,7 +11,7 @@ returns-in-String-clause-puts g c = λ a kept is. rw (rendered-string c.args.val
 
 pub returns-in_err-text-in_default-clause-puts : goal.returns-in_err-text-in_default-clause-puts
 returns-in_err-text-in_default-clause-puts g c = λ a kept is.
-    puts-no_memory _ (shown c.args.entities (view c.args.value.now)) (state_with kept c.args.rc.now) _ c.from_residual.result c.from_residual.ensures.1
+    text-no_memory _ (shown c.args.entities (view c.args.value.now)) (state_with kept c.args.rc.now) _ c.from_residual.result c.from_residual.ensures.1
 
 pub returns-in_ok-text-in_default-clause-puts : goal.returns-in_ok-text-in_default-clause-puts
 returns-in_ok-text-in_default-clause-puts g c = λ a kept is.

@@ -5,17 +5,19 @@ use Rattle.handlebars.proofs.Asks.{asks-nothing}
 use Rattle.handlebars_markup.proofs.FixedMarkup.{two_runs}
 use Rattle.handlebars.proofs.AnswerLaws.{FromSource-one, has_one_answer, answer_has_origins, answer_stays}
 use Rattle.handlebars.proofs.OverLaws.{over-lawful}
-use Rattle.handlebars.proofs.WritesRead.{writes-source, writes-uncompiled}
+use Rattle.handlebars.proofs.WritesRead.{reading-source, reading-uncompiled}
+use Rattle.handlebars.proofs.Writing.{Appends-nothing, Writes-begun}
+use Rattle.handlebars.specs.Calls.{AppendsNothing, Writes}
 use Rattle.handlebars.proofs.registry.RegistryOf.render_template_with_context_to_write.Goals as goal
 
 pub returns-in-Ok-clause-writes : goal.returns-in-Ok-clause-writes
 returns-in-Ok-clause-writes g c =
-    writes-source g.E.OwnParts.registered g.E.OwnParts.own c.args.self.now (data_of c.args.ctx.now) _ _ _ _ c.args.source.now (tree_view c.in-Ok.template)
+    reading-source AppendsNothing Writes g.E.OwnParts.registered g.E.OwnParts.own c.args.self.now (data_of c.args.ctx.now) _ _ _ (λ p b one t f l a. Writes-begun p b one t) _ c.args.source.now (tree_view c.in-Ok.template)
     c.in-Ok.ensures.ok c.write_compiled.ensures.writes
 
 pub returns-in-Err-clause-writes : goal.returns-in-Err-clause-writes
 returns-in-Err-clause-writes g c =
-    writes-uncompiled c.args.self.now _ _ _ c.args.source.now _ (template_refusal_of c.in-Err.e) c.into.result _
+    reading-uncompiled AppendsNothing Appends-nothing c.args.self.now _ _ _ c.args.source.now _ (template_refusal_of c.in-Err.e) c.into.result _
     c.in-Err.ensures.err c.into.ensures
 
 pub returns-in-Ok-clause-one : goal.returns-in-Ok-clause-one
