@@ -42,6 +42,8 @@ pub use handlebars_helpers::refusal::FnRefusal;
 pub use handlebars_helpers::view::Helper;
 pub use handlebars_markup::fault::{MarkupFault, MarkupFaultReason};
 pub use handlebars_render::context::RenderContext;
+pub use handlebars_render::heard::Heard;
+pub use handlebars_render::pieces::{Origin, PieceKind, PieceOutput, Spot, Standing};
 pub use handlebars_render::write::indent_aware_write;
 pub use handlebars_scope::block::{BlockContext, BlockParamHolder, BlockParams};
 pub use handlebars_scope::context::{Context, Object};

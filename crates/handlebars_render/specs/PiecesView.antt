@@ -1,5 +1,5 @@
 -- What the code tells of pieces, and what it keeps of them.
-use Rattle.std.specs.Prelude.{List, [], ◌∷◌, ◌++◌, Option, Some, None, option_map, map, String, string_bytes}
+use Rattle.std.specs.Prelude.{List, [], ◌∷◌, ◌++◌, Option, Some, None, option_map, map, String, string_bytes, codes}
 use Rattle.std.specs.declared.alloc.Global.{Global}
 use Rattle.std.specs.declared.vec.Vec.{Vec}
 use denote.Ref.{Bor}
@@ -31,6 +31,15 @@ kind_seen kinds.EscapedValue = escaped_value
 kind_seen kinds.RawValue = raw_value
 kind_seen kinds.HelperWord = helper_word
 kind_seen kinds.OwnText = own_text
+
+-- the word for a kind
+abbrev pub kind_name : Kind → Text
+kind_name template_text = codes "text"
+kind_name indentation = codes "indentation"
+kind_name escaped_value = codes "value"
+kind_name raw_value = codes "raw"
+kind_name helper_word = codes "word"
+kind_name own_text = codes "own"
 
 abbrev pub template_seen : Standing → Template
 template_seen standing.First = the_first

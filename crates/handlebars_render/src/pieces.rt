@@ -4,10 +4,10 @@ ghost use Rattle.std.specs.Prelude.{◌≡◌, ◌++◌, ◌∷◌, [], IfErr, L
 ghost use Rattle.std.specs.declared.io.Error.{Error};
 ghost use Rattle.handlebars_meaning.specs.Sites.{the_first};
 ghost use Rattle.handlebars_meaning.specs.Told.{Told};
-ghost use Rattle.handlebars_render.specs.PiecesView.{spot_seen, told_seen};
+ghost use Rattle.handlebars_render.specs.PiecesView.{kind_name, kind_seen, spot_seen, told_seen};
 
 use handlebars_template::template::TemplateMapping;
-use std::io;
+use std::{fmt, io};
 
 /// Of what kind a piece is.
 #[derive(Clone, Copy, Debug, PartialEq, Eq)]
@@ -24,6 +24,28 @@ pub enum PieceKind {
     HelperWord,
     /// A text of a helper of one's own.
     OwnText,
+}
+
+impl PieceKind {
+    /// A word for it: `text`, `indentation`, `value`, `raw`, `word` or `own`.
+    pub fn name(self) -> &'static str
+        ensures { result.now ≡ kind_name (kind_seen self) }
+    {
+        match self {
+            PieceKind::TemplateText => "text",
+            PieceKind::Indentation => "indentation",
+            PieceKind::EscapedValue => "value",
+            PieceKind::RawValue => "raw",
+            PieceKind::HelperWord => "word",
+            PieceKind::OwnText => "own",
+        }
+    }
+}
+
+impl fmt::Display for PieceKind {
+    fn fmt<W: fmt::Write>(&self, f: &mut fmt::Formatter<W>) -> fmt::Result {
+        f.write_str(self.name())
+    }
 }
 
 /// The template in which an element stands.
