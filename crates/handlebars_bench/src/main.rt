@@ -1,12 +1,13 @@
-//! `handlebars_bench [times=N] [writer] WORK[=SIZE] ..`: compiles and renders works of a size, to a text or to a writer,
-//! and tells how many bytes they have and, where times are asked for, the least time of N runs. `docs/SPEED.md` has the
-//! works and what they gave.
+//! `handlebars_bench [times=N] [writer | pieces] WORK[=SIZE] ..`: compiles and renders works of a size, to a text, to a
+//! writer or piece by piece, and tells how many bytes they have and, where times are asked for, the least time of N runs.
+//! `docs/SPEED.md` has the works and what they gave.
 #![tactic(auto)]
 
 mod clock;
 mod counter;
 mod failure;
 mod measure;
+mod pieces;
 mod run;
 mod words;
 mod work;

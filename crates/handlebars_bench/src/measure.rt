@@ -3,6 +3,7 @@
 use crate::clock::{elapsed, lesser, now};
 use crate::counter::Counter;
 use crate::failure::Failure;
+use crate::pieces::Texts;
 use crate::work::Work;
 use handlebars::{Context, JsonValue, NoFiles, Registry, Template};
 use log::sink::Discard;
@@ -17,6 +18,8 @@ pub enum Target {
     Text,
     /// A writer that has a buffer in front of it, and counts what comes.
     Writer,
+    /// An output that is told of each piece.
+    Pieces,
 }
 
 // The name that a work's template is registered under.
@@ -129,6 +132,7 @@ fn one_rendering<C: Clock>(
     let bytes = match target {
         Target::Text => render_text(registry, data)?,
         Target::Writer => render_to_writer(alloc, registry, data)?,
+        Target::Pieces => render_pieces(alloc, registry, data)?,
     };
     let least = elapsed(clock, start)?;
     Ok(Rendering { bytes, least })
@@ -148,4 +152,10 @@ fn render_to_writer(alloc: Global, registry: &Registry, data: &Context) -> Resul
         Ok(()) => Ok(buffer.get_ref().bytes()),
         Err(_) => Err(Failure::CannotWrite),
     }
+}
+
+fn render_pieces(alloc: Global, registry: &Registry, data: &Context) -> Result<usize, Failure> {
+    let mut texts = Texts::new(alloc);
+    registry.render_pieces(NAME, data, &mut texts, &Discard, &mut NoFiles)?;
+    Ok(texts.bytes())
 }

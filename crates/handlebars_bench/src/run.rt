@@ -62,6 +62,7 @@ fn run_tasks<C: Clock, O: Write>(
         match asked(word.as_str()) {
             Some(Argument::Times(number)) => times = Some(number),
             Some(Argument::Writer) => target = Target::Writer,
+            Some(Argument::Pieces) => target = Target::Pieces,
             Some(Argument::Run(work, size)) => {
                 run_work(alloc, clock, work, size, times, target, out)?
             }
@@ -106,6 +107,7 @@ fn tell<O: Write>(
     let to = match target {
         Target::Text => "",
         Target::Writer => " to a writer",
+        Target::Pieces => " by pieces",
     };
     let source = measure.source;
     let data = measure.data;

@@ -13,6 +13,8 @@ pub enum Argument {
     Times(u32),
     /// That the works behind it are rendered to a writer.
     Writer,
+    /// That the works behind it are rendered to an output that is told of each piece.
+    Pieces,
     /// A work of a size.
     Run(Work, u32),
 }
@@ -32,12 +34,13 @@ fn failure_of_words(cause: ErrorKind) -> Failure {
     }
 }
 
-/// What a word asks for, if it is `times=N` with an N above 0, `writer`, `WORK=SIZE`, or a work alone, which has
-/// its full size.
+/// What a word asks for, if it is `times=N` with an N above 0, `writer`, `pieces`, `WORK=SIZE`, or a work alone, which
+/// has its full size.
 pub fn asked(word: &str) -> Option<Argument> {
     match word.split_once('=') {
         Some((name, number)) => asked_of(name, number.parse::<u32>().ok()?),
         None if word == "writer" => Some(Argument::Writer),
+        None if word == "pieces" => Some(Argument::Pieces),
         None => {
             let work = Work::of_name(word)?;
             Some(Argument::Run(work, work.texts().full_size))
