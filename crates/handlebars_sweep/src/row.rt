@@ -40,7 +40,7 @@ pub const PLAIN: Row = Row {
 };
 
 /// All rows.
-pub static ROWS: [Row; 19] = [
+pub static ROWS: [Row; 20] = [
     Row {
         name: "escaped",
         source: "{{x}}|{{{x}}}",
@@ -111,6 +111,17 @@ pub static ROWS: [Row; 19] = [
         source: "{{> p}}",
         data: r#"{"n":1,"k":[{"n":2,"k":[{"n":3}]},{"n":4}]}"#,
         text: "1234",
+        ..PLAIN
+    },
+    Row {
+        name: "pieces",
+        partial: Some(("page", "<ul>\n{{> @partial-block}}</ul>\n")),
+        source: concat!(
+            "{{#*inline \"item\"}}\n{{this}}{{#steps}}!{{/steps}}\n{{eq this 8}}\n{{/inline}}\n",
+            "{{#> page}}\n{{#each a}}\n{{#each this}}\n{{{this}}}\n  {{> item}}\n{{/each}}\n{{/each}}\n{{/page}}",
+        ),
+        data: r#"{"a":[[7,8],[9]]}"#,
+        text: "<ul>\n7\n  7<!!\nfalse\n8\n  8<!!\ntrue\n9\n  9<!!\nfalse\n</ul>\n",
         ..PLAIN
     },
     Row {

@@ -1,7 +1,7 @@
 //! The ways to render a row.
 
 use crate::bench::{Both, Scene};
-use crate::given::data_of;
+use crate::given::{data_of, value_of};
 use crate::pair::Pair;
 use crate::row::Row;
 use crate::seen::{Seen, Stop, if_stands, of_error};
@@ -10,7 +10,8 @@ use handlebars::{
     RenderErrorReason, Renderable, StringOutput,
 };
 use handlebars_parts::decorators::SettingData;
-use handlebars_parts::helpers::Twice;
+use handlebars_parts::helpers::{Stepping, Twice};
+use handlebars_parts::pieces::{KeptPiece, KeptPieces};
 use log::sink::Discard;
 use std::alloc::{AllocError, Global};
 
@@ -29,12 +30,13 @@ pub struct Way {
 enum Renders {
     Text,
     ToWriter,
+    Pieces,
     TreeText,
     TreeToOutput,
 }
 
-/// The ways: the eight calls, and the tree alone.
-pub static WAYS: [Way; 10] = [
+/// The ways: the ten calls, and the tree alone.
+pub static WAYS: [Way; 12] = [
     Way {
         name: "render_template",
         renders: Renders::Text,
@@ -56,6 +58,12 @@ pub static WAYS: [Way; 10] = [
     Way {
         name: "render_template_with_context_to_write",
         renders: Renders::ToWriter,
+        is_by_name: false,
+        has_context: true,
+    },
+    Way {
+        name: "render_template_pieces",
+        renders: Renders::Pieces,
         is_by_name: false,
         has_context: true,
     },
@@ -95,6 +103,12 @@ pub static WAYS: [Way; 10] = [
         is_by_name: true,
         has_context: true,
     },
+    Way {
+        name: "render_pieces",
+        renders: Renders::Pieces,
+        is_by_name: true,
+        has_context: true,
+    },
 ];
 
 /// The way of that name, if there is one.
@@ -113,12 +127,21 @@ pub fn has_way(row: &Row, way: &Way) -> bool {
 }
 
 /// What is seen of a row that is rendered in this way. What a program registers of its own is made here: a helper `twice`,
-/// which renders its body twice, and a decorator `foo`, which sets data.
+/// which renders its body twice, a helper `steps`, which writes a text and renders its body twice, and a decorator `foo`,
+/// which sets data.
 pub fn seen(alloc: Global, row: &Row, way: &Way) -> Result<Seen, Stop> {
     let data = data_of(alloc, r#"{"hello":"war"}"#)?;
     let foo: Box<dyn DecoratorDef> = Box::new(alloc, SettingData { alloc, data })?;
     let twice: Box<dyn HelperDef> = Box::new(alloc, Twice { alloc })?;
-    seen_with(alloc, row, way, twice, foo)
+    let steps: Box<dyn HelperDef> = Box::new(alloc, stepping(alloc)?)?;
+    seen_with(alloc, row, way, twice, steps, foo)
+}
+
+// Writes `<`, and renders its body twice, the second time at 7.
+fn stepping(alloc: Global) -> Result<Stepping, Stop> {
+    let value = value_of(alloc, "7")?;
+    let text = String::from_str(alloc, "<")?;
+    Ok(Stepping { alloc, text, value })
 }
 
 fn seen_with(
@@ -126,19 +149,22 @@ fn seen_with(
     row: &Row,
     way: &Way,
     twice: Box<dyn HelperDef>,
+    steps: Box<dyn HelperDef>,
     foo: Box<dyn DecoratorDef>,
 ) -> Result<Seen, Stop> {
     let mut both = both_of(alloc, row, way)?;
-    put_own(&mut both.pair.registry, twice, foo)?;
+    put_own(&mut both.pair.registry, twice, steps, foo)?;
     seen_of(alloc, row, way, &both)
 }
 
 fn put_own(
     registry: &mut Registry,
     twice: Box<dyn HelperDef>,
+    steps: Box<dyn HelperDef>,
     foo: Box<dyn DecoratorDef>,
 ) -> Result<(), AllocError> {
     registry.register_helper("twice", HelperEntry::Own(twice))?;
+    registry.register_helper("steps", HelperEntry::Own(steps))?;
     registry.register_decorator("foo", DecoratorEntry::Own(foo))
 }
 
@@ -156,6 +182,7 @@ fn seen_of(alloc: Global, row: &Row, way: &Way, both: &Both) -> Result<Seen, Sto
     match way.renders {
         Renders::Text => handed_out(alloc, row, way, both),
         Renders::ToWriter => written(alloc, row, way, both),
+        Renders::Pieces => told(alloc, row, way, both),
         Renders::TreeText => tree_handed_out(alloc, row, both),
         Renders::TreeToOutput => tree_written(alloc, row, both),
     }
@@ -198,6 +225,42 @@ fn write(pair: &Pair, row: &Row, way: &Way, held: &mut Vec<u8>) -> Result<(), Re
         }
         (true, false) => registry.render_to_write("main", data.data(), held, log, files),
         (true, true) => registry.render_with_context_to_write("main", data, held, log, files),
+    }
+}
+
+// What is told is compared with what was told before, with memory enough.
+fn told(alloc: Global, row: &Row, way: &Way, both: &Both) -> Result<Seen, Stop> {
+    let whole = all_told(alloc, row, way, &both.pair)?;
+    let mut out = KeptPieces::new(alloc);
+    let answer = tell(&both.pair, row, way, &mut out);
+    let seen = of_told(
+        alloc,
+        row,
+        &answer,
+        out.pieces.as_slice(),
+        whole.pieces.as_slice(),
+    );
+    if_stands(seen, both.stands())
+}
+
+// All pieces of the answer.
+fn all_told(alloc: Global, row: &Row, way: &Way, pair: &Pair) -> Result<KeptPieces, Stop> {
+    let mut whole = KeptPieces::new(alloc);
+    let answer = tell(pair, row, way, &mut whole);
+    let text = whole.text()?;
+    match of_written(alloc, row, &answer, text.as_str().as_bytes())? {
+        Seen::Answer => Ok(whole),
+        Seen::Want => Err(Stop::Memory),
+        Seen::Other => Err(Stop::Broken),
+    }
+}
+
+fn tell(pair: &Pair, row: &Row, way: &Way, out: &mut KeptPieces) -> Result<(), RenderError> {
+    let Pair { registry, data } = pair;
+    let (log, files) = (&Discard, &mut NoFiles);
+    match way.is_by_name {
+        false => registry.render_template_pieces(row.source, data, out, log, files),
+        true => registry.render_pieces("main", data, out, log, files),
     }
 }
 
@@ -247,6 +310,26 @@ fn of_written(
             let stands = match of_error(error).is_want() {
                 true => whole.starts_with(held),
                 false => held == whole,
+            };
+            if_stands(of_refusal(alloc, row, error), stands)
+        }
+    }
+}
+
+// Behind a refusal for want of memory the first pieces were told, and else all.
+fn of_told(
+    alloc: Global,
+    row: &Row,
+    answer: &Result<(), RenderError>,
+    told: &[KeptPiece],
+    whole: &[KeptPiece],
+) -> Result<Seen, Stop> {
+    match answer {
+        Ok(()) => Ok(Seen::answer_if(row.refusal.is_none() && told == whole)),
+        Err(error) => {
+            let stands = match of_error(error).is_want() {
+                true => whole.starts_with(told),
+                false => told == whole,
             };
             if_stands(of_refusal(alloc, row, error), stands)
         }
