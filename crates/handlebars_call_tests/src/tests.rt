@@ -13,6 +13,7 @@ mod names;
 mod own_parts;
 mod own_refusals;
 mod pages;
+mod pieces_told;
 mod registries;
 mod trees;
 mod unrendered;

@@ -1,34 +1,34 @@
-//! An output of a caller's own that keeps each piece that it is told of, with all that is told of it.
+//! An output of a caller's own that holds each piece that it was told of, with all that was told of it.
 
 use handlebars::{Heard, Origin, PieceKind, PieceOutput, Standing};
 use std::alloc::{AllocError, Global};
-use std::io;
 use std::io::ErrorKind;
+use std::{fmt, io};
 
 /// The template in which an element stands.
 #[derive(Debug, Drop, PartialEq)]
-pub enum KeptStanding {
+pub enum HeldStanding {
     First,
     Included(Option<String>),
 }
 
-/// A piece, with all that is told of it.
-#[derive(Debug, Drop, PartialEq)]
-pub struct KeptPiece {
+/// A piece, with all that was told of it. It is printed in this order.
+#[derive(Drop, PartialEq)]
+pub struct HeldPiece {
     pub kind: PieceKind,
     pub text: String,
-    pub template: KeptStanding,
+    pub template: HeldStanding,
     pub place: Option<(usize, usize)>,
     pub turns: Vec<usize>,
     pub path: Option<Vec<String>>,
 }
 
-impl KeptPiece {
-    fn of(alloc: Global, text: &str, origin: &Origin<'_>) -> Result<KeptPiece, AllocError> {
-        let template = kept_standing(alloc, origin.spot.template)?;
-        let path = kept_path(origin.path)?;
+impl HeldPiece {
+    fn of(alloc: Global, text: &str, origin: &Origin<'_>) -> Result<HeldPiece, AllocError> {
+        let template = held_standing(alloc, origin.spot.template)?;
+        let path = held_path(origin.path)?;
         let turns = origin.spot.turns.to_vec(alloc)?;
-        Ok(KeptPiece {
+        Ok(HeldPiece {
             kind: origin.kind,
             text: String::from_str(alloc, text)?,
             template,
@@ -39,28 +39,35 @@ impl KeptPiece {
     }
 }
 
-fn kept_standing(alloc: Global, template: Standing<'_>) -> Result<KeptStanding, AllocError> {
+impl fmt::Display for HeldPiece {
+    fn fmt<W: fmt::Write>(&self, f: &mut fmt::Formatter<W>) -> fmt::Result {
+        write!(f, "{} {:?} {:?} ", self.kind, self.text, self.template)?;
+        write!(f, "{:?} {:?} {:?}", self.place, self.turns, self.path)
+    }
+}
+
+fn held_standing(alloc: Global, template: Standing<'_>) -> Result<HeldStanding, AllocError> {
     match template {
-        Standing::First => Ok(KeptStanding::First),
-        Standing::Included(None) => Ok(KeptStanding::Included(None)),
+        Standing::First => Ok(HeldStanding::First),
+        Standing::Included(None) => Ok(HeldStanding::Included(None)),
         Standing::Included(Some(name)) => {
             let name = String::from_str(alloc, name)?;
-            Ok(KeptStanding::Included(Some(name)))
+            Ok(HeldStanding::Included(Some(name)))
         }
     }
 }
 
-fn kept_path(path: Option<&Vec<String>>) -> Result<Option<Vec<String>>, AllocError> {
+fn held_path(path: Option<&Vec<String>>) -> Result<Option<Vec<String>>, AllocError> {
     match path {
         Some(path) => Ok(Some(path.clone()?)),
         None => Ok(None),
     }
 }
 
-/// Keeps so many pieces. The next one is refused, and so are all behind it.
+/// Holds so many pieces. The next one is refused, and so are all behind it.
 #[derive(Drop)]
-pub struct KeptPieces {
-    pub pieces: Vec<KeptPiece>,
+pub struct HeldPieces {
+    pub pieces: Vec<HeldPiece>,
     /// How often a piece was refused.
     pub refused: u64,
     alloc: Global,
@@ -69,15 +76,15 @@ pub struct KeptPieces {
     heard: Heard,
 }
 
-impl KeptPieces {
+impl HeldPieces {
     /// Has room for all.
-    pub fn new(alloc: Global) -> KeptPieces {
-        KeptPieces::with_room(alloc, usize::MAX, ErrorKind::Other)
+    pub fn new(alloc: Global) -> HeldPieces {
+        HeldPieces::with_room(alloc, usize::MAX, ErrorKind::Other)
     }
 
     /// Refuses those that it has no room for by an error of this kind.
-    pub fn with_room(alloc: Global, room: usize, fault: ErrorKind) -> KeptPieces {
-        KeptPieces {
+    pub fn with_room(alloc: Global, room: usize, fault: ErrorKind) -> HeldPieces {
+        HeldPieces {
             pieces: Vec::new(alloc),
             refused: 0,
             alloc,
@@ -96,20 +103,20 @@ impl KeptPieces {
         Ok(text)
     }
 
-    fn keep(&mut self, text: &str, origin: &Origin<'_>) -> Result<(), io::Error> {
+    fn hold(&mut self, text: &str, origin: &Origin<'_>) -> Result<(), io::Error> {
         if self.pieces.len() >= self.room {
             return Err(io::Error::from(self.fault));
         }
-        let piece = KeptPiece::of(self.alloc, text, origin)?;
+        let piece = HeldPiece::of(self.alloc, text, origin)?;
         Ok(self.pieces.push(piece)?)
     }
 }
 
-impl PieceOutput for KeptPieces {
+impl PieceOutput for HeldPieces {
     ghost told = { λ o. o.heard.told };
 
     fn piece(&mut self, text: &str, origin: &Origin<'_>) -> Result<(), io::Error> {
-        match self.keep(text, origin) {
+        match self.hold(text, origin) {
             Ok(()) => {
                 self.heard = self.heard.and(text, origin);
                 Ok(())

@@ -118,7 +118,7 @@ pub static ROWS: [Row; 20] = [
         partial: Some(("page", "<ul>\n{{> @partial-block}}</ul>\n")),
         source: concat!(
             "{{#*inline \"item\"}}\n{{this}}{{#steps}}!{{/steps}}\n{{eq this 8}}\n{{/inline}}\n",
-            "{{#> page}}\n{{#each a}}\n{{#each this}}\n{{{this}}}\n  {{> item}}\n{{/each}}\n{{/each}}\n{{/page}}",
+            "{{#> page}}\n{{#each @root.a}}\n{{#each this}}\n{{{this}}}\n  {{> item}}\n{{/each}}\n{{/each}}\n{{/page}}",
         ),
         data: r#"{"a":[[7,8],[9]]}"#,
         text: "<ul>\n7\n  7<!!\nfalse\n8\n  8<!!\ntrue\n9\n  9<!!\nfalse\n</ul>\n",

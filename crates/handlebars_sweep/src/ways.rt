@@ -11,7 +11,7 @@ use handlebars::{
 };
 use handlebars_parts::decorators::SettingData;
 use handlebars_parts::helpers::{Stepping, Twice};
-use handlebars_parts::pieces::{KeptPiece, KeptPieces};
+use handlebars_parts::pieces::{HeldPiece, HeldPieces};
 use log::sink::Discard;
 use std::alloc::{AllocError, Global};
 
@@ -231,7 +231,7 @@ fn write(pair: &Pair, row: &Row, way: &Way, held: &mut Vec<u8>) -> Result<(), Re
 // What is told is compared with what was told before, with memory enough.
 fn told(alloc: Global, row: &Row, way: &Way, both: &Both) -> Result<Seen, Stop> {
     let whole = all_told(alloc, row, way, &both.pair)?;
-    let mut out = KeptPieces::new(alloc);
+    let mut out = HeldPieces::new(alloc);
     let answer = tell(&both.pair, row, way, &mut out);
     let seen = of_told(
         alloc,
@@ -244,8 +244,8 @@ fn told(alloc: Global, row: &Row, way: &Way, both: &Both) -> Result<Seen, Stop> 
 }
 
 // All pieces of the answer.
-fn all_told(alloc: Global, row: &Row, way: &Way, pair: &Pair) -> Result<KeptPieces, Stop> {
-    let mut whole = KeptPieces::new(alloc);
+fn all_told(alloc: Global, row: &Row, way: &Way, pair: &Pair) -> Result<HeldPieces, Stop> {
+    let mut whole = HeldPieces::new(alloc);
     let answer = tell(pair, row, way, &mut whole);
     let text = whole.text()?;
     match of_written(alloc, row, &answer, text.as_str().as_bytes())? {
@@ -255,7 +255,7 @@ fn all_told(alloc: Global, row: &Row, way: &Way, pair: &Pair) -> Result<KeptPiec
     }
 }
 
-fn tell(pair: &Pair, row: &Row, way: &Way, out: &mut KeptPieces) -> Result<(), RenderError> {
+fn tell(pair: &Pair, row: &Row, way: &Way, out: &mut HeldPieces) -> Result<(), RenderError> {
     let Pair { registry, data } = pair;
     let (log, files) = (&Discard, &mut NoFiles);
     match way.is_by_name {
@@ -321,8 +321,8 @@ fn of_told(
     alloc: Global,
     row: &Row,
     answer: &Result<(), RenderError>,
-    told: &[KeptPiece],
-    whole: &[KeptPiece],
+    told: &[HeldPiece],
+    whole: &[HeldPiece],
 ) -> Result<Seen, Stop> {
     match answer {
         Ok(()) => Ok(Seen::answer_if(row.refusal.is_none() && told == whole)),
