@@ -31,7 +31,7 @@ impl PieceOutput for Texts {
     fn piece(&mut self, text: &str, origin: &Origin<'_>) -> Result<(), io::Error> {
         match self.text.push_str(text) {
             Ok(()) => {
-                self.heard = self.heard.and(text, origin);
+                self.heard = self.heard.and(text.as_bytes(), origin);
                 Ok(())
             }
             Err(cause) => Err(cause.into()),

@@ -118,7 +118,7 @@ impl PieceOutput for HeldPieces {
     fn piece(&mut self, text: &str, origin: &Origin<'_>) -> Result<(), io::Error> {
         match self.hold(text, origin) {
             Ok(()) => {
-                self.heard = self.heard.and(text, origin);
+                self.heard = self.heard.and(text.as_bytes(), origin);
                 Ok(())
             }
             Err(cause) => {

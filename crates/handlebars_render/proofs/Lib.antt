@@ -1,3 +1,4 @@
+mod HeardWalks
 mod Tells
 mod Told
 pub mod Carry

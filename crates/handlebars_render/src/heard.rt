@@ -26,8 +26,8 @@ impl Heard {
         Heard {}
     }
 
-    /// With this piece behind it.
-    pub fn and(&self, _text: &str, _origin: &Origin<'_>) -> Heard
+    /// With this piece behind it, by the bytes of its text.
+    pub fn and(&self, _text: &[u8], _origin: &Origin<'_>) -> Heard
         ensures { result.told ≡ self.now.told ++ told_seen _text.now _origin.now ∷ [] }
     {
         Heard {}
