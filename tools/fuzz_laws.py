@@ -1,6 +1,7 @@
 """The laws by which tools/fuzz compares what the rows of a case answer."""
 import fuzz_cases
-from fuzz_rows import Refusal, by_bytes, read_refusal, read_texts
+import fuzz_pieces
+from fuzz_rows import FIRST, Refusal, by_bytes, read_refusal, read_texts
 
 # ---- the laws: each yields the labels of the rows that break it, and what differs
 
@@ -32,6 +33,19 @@ class Judged:
         self.broken = [it for it in by_bytes(rows.partials) if self.faults[it]]
         self.main_fault = self.faults[rows.name]
         self.no_data = is_out(self.case.data)
+
+    def pieces(self, label):
+        """What is told of the pieces of a row, if anything is."""
+        ways = self.answers[label]
+        return ways["pieces"].pieces if "pieces" in ways else None
+
+    def unlike(self, label, other, parts=ALL):
+        """What differs in two rows, in their pieces too where both are told."""
+        what = differing(self.at[label], self.at[other], parts)
+        one, two = self.pieces(label), self.pieces(other)
+        if one is not None and two is not None and one != two:
+            what.append(f"pieces: {one} / {two}")
+        return what
 
     def compiles(self):
         return not self.broken and not self.main_fault and not self.no_data
@@ -77,12 +91,12 @@ class Judged:
             wanted = self.main_fault
         elif wanted and wanted.line is not None and wanted.template in (None, "Unnamed"):
             wanted = wanted._replace(template=self.rows.name)
-        what = differing(named, self.first, ("text", "logged"))
+        what = self.unlike("name", "source", ("text", "logged"))
         if what or named.refusal != wanted:
             yield ["source", "name"], f"{what} {named.refusal} / {wanted}"
 
     def as_first(self, label):
-        what = differing(self.at[label], self.first)
+        what = self.unlike(label, "source")
         if what:
             yield ["source", label], str(what)
 
@@ -120,6 +134,8 @@ class Judged:
             yield from self.as_first("larger")
         elif not larger.text.startswith(self.first.text) or larger.logged[: len(self.first.logged)] != self.first.logged:
             yield ["source", "larger"], f"no beginning: {self.first!r} / {larger!r}"
+        elif self.pieces("larger")[: len(self.pieces("source"))] != self.pieces("source"):
+            yield ["source", "larger"], f"no beginning: {self.pieces('source')} / {self.pieces('larger')}"
 
     def step_of(self, label, number):
         """The refusal of a step that refuses a row, the paths that it asked for, and the names that there are then."""
@@ -178,8 +194,7 @@ class Judged:
                 if came != wanted:
                     yield [label], f"{came} / {wanted}"
             else:
-                order = partials if label == "dev" else [rows.name, *partials]
-                yield from self.as_read(label, order, self.at["name" if label == "dev name" else "source"])
+                yield from self.as_read(label, partials if label == "dev" else [rows.name, *partials])
         for label in ("anew", "anew name"):
             yield from self.anew(label)
 
@@ -194,18 +209,19 @@ class Judged:
         elif broken:
             yield from self.refused_as(label, self.faults[broken[0]], self.read_in(order, True))
         else:
-            yield from self.as_read(label, order, self.at["source" if label == "anew" else "name"])
+            yield from self.as_read(label, order)
 
     def refused_as(self, label, wanted, asked):
         it = self.at[label]
         if it.refusal != wanted or it.text or it.logged or it.asked != asked:
             yield [label], f"{it!r} / {wanted}, asked {asked}"
 
-    def as_read(self, label, order, wanted):
-        what = differing(self.at[label], wanted)
+    def as_read(self, label, order):
+        other = "name" if "name" in label else "source"
+        what = self.unlike(label, other)
         asked = self.read_in(order, True) if not self.refused_early() else []
         if what or self.at[label].asked != asked:
-            yield [label, "name" if "name" in label else "source"], f"{what}, asked {self.at[label].asked} / {asked}"
+            yield [label, other], f"{what}, asked {self.at[label].asked} / {asked}"
 
     def marks(self):
         if not self.keeps_marks_out():
@@ -218,8 +234,58 @@ class Judged:
     def keeps_marks_out(self):
         return fuzz_cases.keeps_marks_out(self.case)
 
+    # ---- of pieces
+
+    def told(self):
+        """The labels of the rows whose pieces are told, each with these; of those that are the same, the first one."""
+        rows = {}
+        for label in self.answers:
+            pieces = self.pieces(label)
+            if pieces is not None:
+                rows.setdefault(pieces, label)
+        return [(label, pieces) for pieces, label in rows.items()]
+
+    def joined(self):
+        for label, ways in self.answers.items():
+            pieces = self.pieces(label)
+            if pieces is not None:
+                texts = [it.text for it in pieces]
+                if "".join(texts) != ways["pieces"].text or "" in texts:
+                    yield [label], f"{texts} / {ways['pieces'].text!r}"
+
+    def sources(self, piece):
+        """The sources of the template in which a piece's element may stand."""
+        if piece.template is None:
+            return list(self.rows.all.values())
+        source = self.rows.source if piece.template is FIRST else self.rows.partials.get(piece.template)
+        return [] if source is None else [source]
+
+    def places(self):
+        for label, pieces in self.told():
+            for first, texts in fuzz_pieces.runs(pieces):
+                if not fuzz_pieces.stands_in(self.sources(first), first, texts):
+                    yield [label], f"{first}, {texts}"
+            for piece in fuzz_pieces.stray_indentations(pieces):
+                yield [label], str(piece)
+
+    def paths(self):
+        for label, pieces in self.told():
+            for first, texts in fuzz_pieces.runs(pieces):
+                if first.path is not None and not fuzz_pieces.is_value(self.case.data, first, texts, self.escapes()):
+                    yield [label], f"{first}, {texts}"
+
+    def escaped(self):
+        for label, pieces in self.told() if self.escapes() else ():
+            for it in pieces:
+                if it.kind in ("value", "word", "indentation") and set(it.text) & set(fuzz_cases.MARKS):
+                    yield [label], str(it)
+
+    def escapes(self):
+        return self.case.fields.get("escape", "html") == "html"
+
 
 LAWS = ["ways", "alone", "name", "byte", "fails", "takes", "larger", "others", "folder", "listed", "dev", "marks"]
+LAWS += ["joined", "places", "paths", "escaped"]
 
 
 def findings(rows, answers):

@@ -1,5 +1,7 @@
 """The rows of a case of tools/fuzz, and what the program answers of them, read from what it prints (docs/ROWS.md)."""
 import collections
+import functools
+import json
 import random
 import re
 
@@ -128,6 +130,9 @@ class Rows:
         self.rows["folder"] = {**bare, "files": files, "steps": [step]}
         self.rows["listed"] = {**alone, "files": files, "steps": [{**step, "names": [WANTED]}], "source": "", "over": "context"}
         self.in_dev_mode(draw, bare, named)
+        for label, row in self.rows.items():
+            if label not in ("byte", "fails", "takes"):
+                row["pieces"] = []
 
     def has_pairs(self):
         """Whether an inclusion may have pairs."""
@@ -159,8 +164,11 @@ STRING = re.compile(r'"([^"\\]*(?:\\.[^"\\]*)*)"')
 ESCAPE = re.compile(r"\\(u\{([0-9a-fA-F]+)\}|.)")
 ESCAPED = {"n": "\n", "r": "\r", "t": "\t", "0": "\0", "\\": "\\", '"': '"', "'": "'"}
 PLACES = [re.compile(r", line (\d+)"), re.compile(r", column (\d+)")]
-WAY = re.compile(r"    (wanted|registry|converted|template|writer|converting): +")
+WAY = re.compile(r"    (wanted|registry|converted|template|writer|converting|pieces): +")
 Refusal = collections.namedtuple("Refusal", "reason line column template")
+# The template is the name of one that is included, None of an inline partial, and FIRST of the one that is rendered.
+Piece = collections.namedtuple("Piece", "kind text template place turns path")
+FIRST = False
 
 
 class Answer:
@@ -168,10 +176,10 @@ class Answer:
 
     def __init__(self, text, refusal):
         self.text, self.refusal = text, refusal
-        self.printed, self.logged, self.asked = None, [], []
+        self.printed, self.logged, self.asked, self.pieces = None, [], [], None
 
     def __repr__(self):
-        told = {"printed": self.printed, "logged": self.logged, "asked": self.asked}
+        told = {"printed": self.printed, "logged": self.logged, "asked": self.asked, "pieces": self.pieces}
         return f"{self.text!r}, {self.refusal}" + "".join(f"\n      {key}: {it!r}" for key, it in told.items() if it)
 
 
@@ -232,6 +240,16 @@ def read_answer(line, at):
     return Answer(text, refusal)
 
 
+@functools.lru_cache(maxsize=64)
+def read_pieces(told):
+    """The pieces of an answer. The rows of a case mostly have the same."""
+    return tuple(read_piece(**it) for it in json.loads(told))
+
+
+def read_piece(kind, text, template=FIRST, line=None, column=None, turns=(), path=None):
+    return Piece(kind, text, template, line and (line, column), tuple(turns), path if path is None else tuple(path))
+
+
 def read_told(answer, line):
     kind, _, _ = line.strip().partition(":")
     at = line.index(": ") + 2
@@ -241,6 +259,8 @@ def read_told(answer, line):
         answer.logged.append(read_text(line, at)[0])
     elif kind == "asked":
         answer.asked = read_texts(line, at)[0]
+    elif kind == "pieces":
+        answer.pieces = read_pieces(line[at:])
     else:
         raise Stopped(f"a line that isn't known: {line[:300]!r}")
 

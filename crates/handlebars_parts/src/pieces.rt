@@ -1,6 +1,6 @@
 //! An output of a caller's own that holds each piece that it was told of, with all that was told of it.
 
-use handlebars::{Heard, Origin, PieceKind, PieceOutput, Standing};
+use handlebars::{Heard, Origin, PieceKind, PieceOutput, Standing, TemplateMapping};
 use std::alloc::{AllocError, Global};
 use std::io::ErrorKind;
 use std::{fmt, io};
@@ -32,7 +32,7 @@ impl HeldPiece {
             kind: origin.kind,
             text: String::from_str(alloc, text)?,
             template,
-            place: origin.spot.place.map(|place| (place.0, place.1)),
+            place: held_place(origin.spot.place),
             turns,
             path,
         })
@@ -57,6 +57,13 @@ fn held_standing(alloc: Global, template: Standing<'_>) -> Result<HeldStanding, 
     }
 }
 
+fn held_place(place: Option<&TemplateMapping>) -> Option<(usize, usize)> {
+    match place {
+        Some(TemplateMapping(line, column)) => Some((*line, *column)),
+        None => None,
+    }
+}
+
 fn held_path(path: Option<&Vec<String>>) -> Result<Option<Vec<String>>, AllocError> {
     match path {
         Some(path) => Ok(Some(path.clone()?)),
@@ -68,7 +75,7 @@ fn held_path(path: Option<&Vec<String>>) -> Result<Option<Vec<String>>, AllocErr
 #[derive(Drop)]
 pub struct HeldPieces {
     pub pieces: Vec<HeldPiece>,
-    /// How often a piece was refused.
+    /// How often it had no room.
     pub refused: u64,
     alloc: Global,
     room: usize,
@@ -102,29 +109,19 @@ impl HeldPieces {
         }
         Ok(text)
     }
-
-    fn hold(&mut self, text: &str, origin: &Origin<'_>) -> Result<(), io::Error> {
-        if self.pieces.len() >= self.room {
-            return Err(io::Error::from(self.fault));
-        }
-        let piece = HeldPiece::of(self.alloc, text, origin)?;
-        Ok(self.pieces.push(piece)?)
-    }
 }
 
 impl PieceOutput for HeldPieces {
     ghost told = { λ o. o.heard.told };
 
     fn piece(&mut self, text: &str, origin: &Origin<'_>) -> Result<(), io::Error> {
-        match self.hold(text, origin) {
-            Ok(()) => {
-                self.heard = self.heard.and(text.as_bytes(), origin);
-                Ok(())
-            }
-            Err(cause) => {
-                self.refused = self.refused.saturating_add(1);
-                Err(cause)
-            }
+        if self.pieces.len() >= self.room {
+            self.refused = self.refused.saturating_add(1);
+            return Err(io::Error::from(self.fault));
         }
+        let piece = HeldPiece::of(self.alloc, text, origin)?;
+        self.pieces.push(piece)?;
+        self.heard = self.heard.and(text, origin);
+        Ok(())
     }
 }
