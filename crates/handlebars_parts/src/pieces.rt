@@ -121,7 +121,7 @@ impl PieceOutput for HeldPieces {
         }
         let piece = HeldPiece::of(self.alloc, text, origin)?;
         self.pieces.push(piece)?;
-        self.heard = self.heard.and(text, origin);
+        self.heard = self.heard.and(text.as_bytes(), origin);
         Ok(())
     }
 }
