@@ -1,0 +1,9 @@
+use Rattle.std.proofs.Common.{◌≡◌, ◌++◌, map, string_bytes, take}
+use Rattle.json.specs.Token.{string}
+use Rattle.hbs_origins.proofs.line.write_names.Given as goal
+
+abbrev pub invariant-loop-name : goal.invariant-loop-name
+invariant-loop-name l = record {
+  tokens : l.writer.tokens ≡ l.initial.writer.tokens ++ map string (map string_bytes (take l.name-index l.names));
+  before : l.writer.before ≡ l.initial.writer.before;
+}

@@ -1,0 +1,111 @@
+//! Why a run ends before its rendering does, and what it says of that.
+
+ghost use Rattle.std.specs.IoError.{error_kind};
+ghost use Rattle.std.specs.Prelude.{◌≡◌, ◌≢◌, ◌<◌, ◌≤◌};
+ghost use Rattle.std.specs.declared.io.ErrorKind.TheVariants.{OutOfMemory};
+ghost use Rattle.handlebars_base.specs.Reasons.{io_error};
+ghost use Rattle.handlebars_base.specs.RenderRefusals.{plain_refusal, refusal_of};
+
+use handlebars::{RenderError, TemplateError};
+use std::alloc::AllocError;
+use std::io::ErrorKind;
+use std::{fmt, io};
+
+/// Why a run ends before its rendering does; the texts are paths.
+#[derive(Drop)]
+pub enum Failure<'a> {
+    Usage,
+    CannotRead(&'a str),
+    NotJson(&'a str),
+    /// A template of the folder is refused.
+    NotRegistered(TemplateError),
+    Refused(RenderError),
+    OutOfMemory,
+}
+
+impl<'a> Failure<'a> {
+    /// The failure of a reader at a path.
+    pub fn of_reader(path: &'a str, cause: io::Error) -> Failure<'a>
+        ensures memory { error_kind cause ≡ OutOfMemory → result ≡ Failure.OutOfMemory }
+        ensures other { error_kind cause ≢ OutOfMemory → result ≡ Failure.CannotRead path.entry }
+    {
+        match cause.kind() {
+            ErrorKind::OutOfMemory => Failure::OutOfMemory,
+            _ => Failure::CannotRead(path),
+        }
+    }
+
+    /// The failure of the output before a rendering or behind one that ended well: the error that the rendering would have
+    /// been refused with, but for its place.
+    pub fn of_output(cause: io::Error) -> Failure<'a>
+        ensures memory { error_kind cause ≡ OutOfMemory → result ≡ Failure.OutOfMemory }
+        ensures other { error_kind cause ≢ OutOfMemory → (e : RenderError) × (result ≡ Failure.Refused e)
+            × (refusal_of e ≡ plain_refusal (io_error (error_kind cause))) }
+    {
+        match cause.kind() {
+            ErrorKind::OutOfMemory => Failure::OutOfMemory,
+            _ => Failure::Refused(RenderError::from(cause)),
+        }
+    }
+
+    /// The status that a run ends with: 2 for wrong words, a template or data file that can't be read, and data that
+    /// isn't JSON, and else 1.
+    pub fn status(&self) -> u8
+        ensures bound { result ≤ 2 }
+        ensures failed { 0 < result }
+        ensures usage { self.now ≡ Failure.Usage → result ≡ 2 }
+        ensures unread { (path : _) → self.now ≡ Failure.CannotRead path → result ≡ 2 }
+        ensures data { (path : _) → self.now ≡ Failure.NotJson path → result ≡ 2 }
+        ensures template { (cause : _) → self.now ≡ Failure.NotRegistered cause → result ≡ 1 }
+        ensures refused { (cause : _) → self.now ≡ Failure.Refused cause → result ≡ 1 }
+        ensures memory { self.now ≡ Failure.OutOfMemory → result ≡ 1 }
+    {
+        match self {
+            Failure::Usage => 2,
+            Failure::CannotRead(_) => 2,
+            Failure::NotJson(_) => 2,
+            Failure::NotRegistered(_) => 1,
+            Failure::Refused(_) => 1,
+            Failure::OutOfMemory => 1,
+        }
+    }
+}
+
+impl From<AllocError> for Failure<'_> {
+    fn from(_e: AllocError) -> Self
+        ensures { result ≡ Failure.OutOfMemory }
+    {
+        Failure::OutOfMemory
+    }
+}
+
+impl From<TemplateError> for Failure<'_> {
+    fn from(cause: TemplateError) -> Self
+        ensures { result ≡ Failure.NotRegistered cause }
+    {
+        Failure::NotRegistered(cause)
+    }
+}
+
+impl From<RenderError> for Failure<'_> {
+    fn from(cause: RenderError) -> Self
+        ensures { result ≡ Failure.Refused cause }
+    {
+        Failure::Refused(cause)
+    }
+}
+
+const USAGE: &str = "usage: hbs_origins [--strict] [--marks | --html] TEMPLATE DATA [FOLDER]";
+
+impl fmt::Display for Failure<'_> {
+    fn fmt<W: fmt::Write>(&self, f: &mut fmt::Formatter<W>) -> fmt::Result {
+        match self {
+            Failure::Usage => f.write_str(USAGE),
+            Failure::CannotRead(path) => write!(f, "hbs_origins: cannot read {path}"),
+            Failure::NotJson(path) => write!(f, "hbs_origins: not JSON: {path}"),
+            Failure::NotRegistered(cause) => write!(f, "{cause}"),
+            Failure::Refused(cause) => write!(f, "{cause}"),
+            Failure::OutOfMemory => write!(f, "Out of memory"),
+        }
+    }
+}

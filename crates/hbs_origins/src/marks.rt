@@ -1,0 +1,42 @@
+//! Which pieces bring marks of html in.
+
+ghost use Rattle.std.specs.List.{list_any};
+ghost use Rattle.std.specs.Prelude.{◌≡◌};
+ghost use Rattle.handlebars_render.specs.PiecesView.{kind_seen};
+ghost use Rattle.hbs_origins.specs.Marks.{brings_mark, is_mark, may_bring};
+
+use handlebars::PieceKind;
+
+/// Whether data, or a helper of the program's own, brings a mark of html in by this piece. With the default escape an
+/// escaped value has none, so that what is left is raw values and texts of such helpers.
+pub fn brings_mark(kind: PieceKind, text: &str) -> bool
+    ensures { result ≡ brings_mark (kind_seen kind) text.now }
+{
+    may_bring(kind) && has_mark(text.as_bytes())
+}
+
+fn may_bring(kind: PieceKind) -> bool
+    ensures { result ≡ may_bring (kind_seen kind) }
+{
+    match kind {
+        PieceKind::TemplateText => false,
+        PieceKind::Indentation => false,
+        PieceKind::EscapedValue => true,
+        PieceKind::RawValue => true,
+        PieceKind::HelperWord => false,
+        PieceKind::OwnText => true,
+    }
+}
+
+fn has_mark(text: &[u8]) -> bool
+    ensures { result ≡ list_any is_mark text.now }
+{
+    text.iter().any(|byte| is_mark(*byte))
+}
+
+// One of `<`, `>`, `"`, `'`, the backquote and `=`.
+fn is_mark(byte: u8) -> bool
+    ensures { result ≡ is_mark byte }
+{
+    byte == b'<' || byte == b'>' || byte == b'"' || byte == b'\'' || byte == b'`' || byte == b'='
+}

@@ -1,0 +1,80 @@
+//! What a run prints: the pieces that a rendering tells of.
+
+use crate::failure::Failure;
+use crate::printer::Printer;
+use crate::request::Request;
+use handlebars::{
+    Context, DirectorySourceOptions, JsonValue, NoFiles, Registry, RenderError, TemplateReader,
+};
+use log::sink::Discard;
+use std::alloc::Global;
+use std::io;
+use std::io::Write;
+
+/// Prints the pieces of what a template gives over data: the template is read first, then the data, then the folder. What is
+/// printed before a fault stays.
+pub fn print_origins<'a, R: TemplateReader, O: Write>(
+    alloc: Global,
+    task: &Request<'a>,
+    files: &mut R,
+    out: &mut O,
+) -> Result<(), Failure<'a>> {
+    let source = read(task.template, files)?;
+    let value = json(alloc, task.data, read(task.data, files)?.as_str())?;
+    let context = Context::try_from(value)?;
+    let mut registry = Registry::new(alloc)?;
+    registry.set_strict_mode(task.strict);
+    if let Some(folder) = task.folder {
+        registry.register_templates_directory(folder, DirectorySourceOptions::default(), files)?;
+    }
+    let mut printer = Printer::new(alloc, task.form, task.template, out);
+    print_pieces(&registry, source.as_str(), &context, &mut printer)
+}
+
+// A page begins before the rendering and ends behind it, also behind one that is refused.
+fn print_pieces<'a, O: Write>(
+    registry: &Registry,
+    source: &str,
+    context: &Context,
+    printer: &mut Printer<'_, O>,
+) -> Result<(), Failure<'a>> {
+    written(printer.begin())?;
+    match registry.render_template_pieces(source, context, printer, &Discard, &mut NoFiles) {
+        Ok(()) => written(printer.end(None)),
+        Err(cause) => Err(stopped(cause, printer)),
+    }
+}
+
+// Where the end can't be printed, the refusal is told alone: it came first.
+fn stopped<'a, O: Write>(cause: RenderError, printer: &mut Printer<'_, O>) -> Failure<'a>
+    ensures { result ≡ Failure.Refused cause }
+{
+    let _ = printer.end(Some(&cause));
+    Failure::Refused(cause)
+}
+
+fn written<'a>(answer: io::Result<()>) -> Result<(), Failure<'a>> {
+    match answer {
+        Ok(()) => Ok(()),
+        Err(cause) => Err(Failure::of_output(cause)),
+    }
+}
+
+fn read<'a, R: TemplateReader>(path: &'a str, files: &mut R) -> Result<String, Failure<'a>> {
+    match files.read(path) {
+        Ok(text) => Ok(text),
+        Err(cause) => Err(Failure::of_reader(path, cause)),
+    }
+}
+
+// The value that the text of a file is.
+fn json<'a>(alloc: Global, path: &'a str, text: &str) -> Result<JsonValue, Failure<'a>> {
+    match JsonValue::from_str(alloc, text) {
+        Ok(value) => Ok(value),
+        Err(cause) => Err(if cause.is_memory() {
+            Failure::OutOfMemory
+        } else {
+            Failure::NotJson(path)
+        }),
+    }
+}
