@@ -1,10 +1,12 @@
 -- What is wanted of a rendering.
-use Rattle.std.specs.Prelude.{◌≡◌, IfOk, IfSome, Some, option_map, Result, String, string_bytes}
+use Rattle.std.specs.Prelude.{◌≡◌, IfOk, IfSome, List, Some, option_map, Result, String, string_bytes}
 use Rattle.std.specs.declared.alloc.Global.{Global}
 use Rattle.handlebars_rows.specs.Marks.{HasMarks}
 use Rattle.handlebars_rows.specs.Outcomes.{handed_of, handed_out, outcome_view}
+use Rattle.handlebars_rows.specs.Pieces.{ArePieces}
 use Rattle.handlebars_rows.specs.declared.outcome.Outcome.{Outcome}
 use Rattle.handlebars_rows.specs.declared.outcome.Refusal.{Refusal}
+use Rattle.handlebars_rows.specs.declared.piece.Piece.{Piece}
 use Rattle.handlebars_rows.specs.declared.told.Told.{Told}
 use Rattle.handlebars_rows.specs.declared.told.Wanted.{Wanted}
 
@@ -24,3 +26,7 @@ abbrev pub IsWritten : Outcome → Told → Wanted → Type 0
 IsWritten outcome told wanted =
     (outcome_view outcome ≡ outcome_view wanted.outcome) × Prints told wanted
     × HasMarks (string_bytes outcome.text) wanted.marks
+
+-- Pieces are told whose text is written so, and they are the wanted ones.
+abbrev pub IsTold : List Piece → Outcome → Told → Wanted → Type 0
+IsTold pieces outcome told wanted = IsWritten outcome told wanted × ArePieces pieces wanted.pieces

@@ -23,6 +23,10 @@ has_text r = is_none r.takes && is_none r.to
 abbrev pub has_writer : Rendering → Bool
 has_writer r = is_none r.takes
 
+-- the call that tells of pieces, which hands its text to no writer, and has a context
+abbrev pub has_pieces : Rendering → Bool
+has_pieces r = has_text r && is_over Context r
+
 -- a template's own rendering, which has no reader, no writer and no data to convert
 abbrev pub has_output : Rendering → Bool
 has_output r = is_none r.files && (is_none r.steps && (is_none r.to && is_over Context r))

@@ -7,11 +7,11 @@ use serde_json::{Map, Value as JsonValue};
 use std::alloc::{AllocError, Global};
 use std::io::ErrorKind;
 
-/// A text, or a long one: an array of its pieces.
+/// A text, or a long one: an array of texts, each with how often it stands there.
 pub fn text(alloc: Global, name: String, value: JsonValue) -> Result<String, RowFailure> {
     match value {
         JsonValue::String(text) => Ok(text),
-        JsonValue::Array(pieces) => match joined(alloc, pieces.as_slice())? {
+        JsonValue::Array(texts) => match joined(alloc, texts.as_slice())? {
             Some(text) => Ok(text),
             None => Err(RowFailure::Field(name, "is no text")),
         },
@@ -19,11 +19,11 @@ pub fn text(alloc: Global, name: String, value: JsonValue) -> Result<String, Row
     }
 }
 
-// The join of pieces, where all are pieces.
-fn joined(alloc: Global, pieces: &[JsonValue]) -> Result<Option<String>, AllocError> {
+// The join of texts, where all are texts that may stand there.
+fn joined(alloc: Global, texts: &[JsonValue]) -> Result<Option<String>, AllocError> {
     let mut all = String::new(alloc);
-    for value in pieces {
-        match piece(value) {
+    for value in texts {
+        match repeated(value) {
             Some((text, times)) => push_times(&mut all, text, times)?,
             None => return Ok(None),
         }
@@ -32,7 +32,7 @@ fn joined(alloc: Global, pieces: &[JsonValue]) -> Result<Option<String>, AllocEr
 }
 
 // A text, and how often it stands there: once, or as often as the number behind it says.
-fn piece(value: &JsonValue) -> Option<(&str, u64)> {
+fn repeated(value: &JsonValue) -> Option<(&str, u64)> {
     match value {
         JsonValue::String(text) => Some((text.as_str(), 1)),
         JsonValue::Array(pair) => match pair.as_slice() {

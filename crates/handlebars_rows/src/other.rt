@@ -112,6 +112,7 @@ impl OtherFields {
             wanted: Wanted {
                 outcome: Outcome { text, refusal },
                 marks: marks.or(shared_marks),
+                pieces: None,
                 printed: None,
                 logged: None,
                 asked: None,

@@ -4,9 +4,10 @@ use crate::failure::RowFailure;
 use crate::other::{Other, OtherFields, Shared};
 use crate::outcome::{Outcome, copied, refused};
 use crate::pen::Taking;
+use crate::piece::Piece;
 use crate::steps::Step;
 use crate::told::Wanted;
-use crate::{fields, kept, pen, steps};
+use crate::{fields, kept, pen, pieces, steps};
 use serde_json::{Map, Value as JsonValue};
 use std::alloc::{AllocError, Global};
 use std::fmt;
@@ -107,7 +108,7 @@ impl fmt::Display for Rendered {
 
 impl Rendering {
     ghost use Rattle.std.specs.Prelude.{◌≡◌};
-    ghost use Rattle.handlebars_rows.specs.Ways.{has_output, has_text, has_writer, is_over};
+    ghost use Rattle.handlebars_rows.specs.Ways.{has_output, has_pieces, has_text, has_writer, is_over};
 
     /// Whether calls are asked for a text, and not to write.
     pub fn has_text(&self) -> bool
@@ -138,6 +139,13 @@ impl Rendering {
                 Over::Value => true,
             },
         }
+    }
+
+    /// Whether the call that tells of pieces is asked, which has a context and no writer.
+    pub fn has_pieces(&self) -> bool
+        ensures { result ≡ has_pieces self.now }
+    {
+        self.has_text() && self.is_over(Over::Context)
     }
 
     /// Whether a template is rendered to an output of its own, which neither files nor a writer can have.
@@ -180,6 +188,7 @@ struct Fields {
     fault: Option<ErrorKind>,
     text: Option<String>,
     marks: Option<String>,
+    pieces: Option<Vec<Piece>>,
     reason: Option<String>,
     line: Option<usize>,
     column: Option<usize>,
@@ -212,6 +221,7 @@ impl Drop for Fields {
             fault: _,
             text: _,
             marks: _,
+            pieces: _,
             reason: _,
             line: _,
             column: _,
@@ -287,6 +297,7 @@ impl Fields {
         match name.as_str() {
             "text" => fields::set_text(&mut self.text, alloc, name, value),
             "marks" => fields::set_text(&mut self.marks, alloc, name, value),
+            "pieces" => pieces::set_pieces(&mut self.pieces, alloc, name, value),
             "reason" => fields::set_text(&mut self.reason, alloc, name, value),
             "line" => fields::set_number(&mut self.line, name, &value),
             "column" => fields::set_number(&mut self.column, name, &value),
@@ -315,6 +326,9 @@ impl Fields {
         if self.sweep && self.to.is_some() {
             return Err(RowFailure::Fields("a writer beside those of a sweep"));
         }
+        if self.pieces.is_some() && !self.tells_pieces() {
+            return Err(RowFailure::Fields("pieces beside an output, a writer or a value"));
+        }
         self.other.check()
     }
 
@@ -324,6 +338,11 @@ impl Fields {
             || self.over.is_some()
             || self.to.is_some()
             || self.sweep
+    }
+
+    // Whether a call is asked that tells of pieces.
+    fn tells_pieces(&self) -> bool {
+        self.takes.is_none() && self.to.is_none() && is_for_context(self.over)
     }
 
     // Whether the place of a refusal is wanted.
@@ -387,6 +406,7 @@ impl Fields {
             fault,
             text: _,
             marks,
+            pieces,
             reason,
             line,
             column,
@@ -419,12 +439,22 @@ impl Fields {
                     refusal: refused(reason, line, column, template),
                 },
                 marks,
+                pieces,
                 printed,
                 logged,
                 asked,
             },
             other,
         }
+    }
+}
+
+// Whether calls over a context are asked.
+fn is_for_context(over: Option<Over>) -> bool {
+    match over {
+        None => true,
+        Some(Over::Context) => true,
+        Some(Over::Value) => false,
     }
 }
 

@@ -6,6 +6,8 @@ ghost use Rattle.handlebars_rows.specs.Wanted.{Prints};
 use crate::fields::line;
 use crate::names::Names;
 use crate::outcome::Outcome;
+use crate::piece::Piece;
+use crate::pieces::PiecesOf;
 use handlebars_base::error::RenderError;
 use log::sink::{Lines, Memory};
 use serde_json::Value as JsonValue;
@@ -18,6 +20,8 @@ pub struct Wanted {
     pub outcome: Outcome,
     /// The marks of the text, if they are wanted.
     pub marks: Option<String>,
+    /// The pieces of the text, if they are wanted.
+    pub pieces: Option<Vec<Piece>>,
     /// The whole text of the error, if that is wanted.
     pub printed: Option<String>,
     /// The lines that the logger sees, each a level and a text, if they are wanted.
@@ -134,6 +138,9 @@ impl fmt::Display for Wanted {
         write!(f, "    wanted:     {outcome}")?;
         if let Some(marks) = &self.marks {
             write!(f, "\n      marks: {marks:?}")?;
+        }
+        if let Some(pieces) = &self.pieces {
+            write!(f, "\n      pieces: {}", PiecesOf(pieces.as_slice()))?;
         }
         if let Some(text) = &self.printed {
             write!(f, "\n      printed: {text:?}")?;

@@ -1,6 +1,6 @@
 -- When what a row comes to is what it wants.
 use Rattle.std.specs.Prelude.{IfSome}
-use Rattle.handlebars_rows.specs.Wanted.{IsHandedOut, IsWritten}
+use Rattle.handlebars_rows.specs.Wanted.{IsHandedOut, IsTold, IsWritten}
 use Rattle.handlebars_rows.specs.declared.rendering.Rendering.{Rendering}
 use Rattle.handlebars_rows.specs.declared.told.Wanted.{Wanted}
 use Rattle.handlebars_tests.specs.declared.answer.Answer.{Answer}
@@ -14,6 +14,7 @@ ComesTo answer wanted =
     × IfSome answer.template (λ written. IsWritten written.outcome written.told wanted)
     × IfSome answer.writer (λ written. IsWritten written.outcome written.told wanted)
     × IfSome answer.converting (λ written. IsWritten written.outcome written.told wanted)
+    × IfSome answer.pieces (λ pieced. IsTold pieced.pieces.items pieced.written.outcome pieced.written.told wanted)
 
 -- The second run does too, where there is one.
 abbrev pub OtherComesTo : Answers → Rendering → Type 0

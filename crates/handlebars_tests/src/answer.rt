@@ -3,10 +3,12 @@
 ghost use Rattle.std.specs.Prelude.{◌≡◌, ◌&&◌, IfOk, IsTrue, IfSome, is_some, string_bytes};
 ghost use Rattle.handlebars_rows.specs.Marks.{HasMarks};
 ghost use Rattle.handlebars_rows.specs.Outcomes.{outcome_view, handed_of, handed_out};
-ghost use Rattle.handlebars_rows.specs.Wanted.{IsHandedOut, IsWritten};
-ghost use Rattle.handlebars_rows.specs.Ways.{has_output, has_text, has_writer, is_over};
+ghost use Rattle.handlebars_rows.specs.Pieces.{text_of};
+ghost use Rattle.handlebars_rows.specs.Wanted.{IsHandedOut, IsTold, IsWritten};
+ghost use Rattle.handlebars_rows.specs.Ways.{has_output, has_pieces, has_text, has_writer, is_over};
 
 use crate::calls;
+use crate::keeper::Keeper;
 use crate::output::write_template;
 use crate::shelf::Shelf;
 use handlebars::{JsonValue, RenderError};
@@ -15,6 +17,8 @@ use handlebars_rows::marks::{MarksOf, has_marks};
 use handlebars_rows::names::Names;
 use handlebars_rows::outcome::{Outcome, Refusal};
 use handlebars_rows::pen::{Pen, Taking};
+use handlebars_rows::piece::Piece;
+use handlebars_rows::pieces::{PiecesOf, are_wanted, joined};
 use handlebars_rows::rendering::{Over, Rendering};
 use handlebars_rows::told::{Told, Wanted};
 use log::sink::Memory;
@@ -34,6 +38,8 @@ pub struct Answer {
     pub writer: Option<Written>,
     /// What the registry writes to a writer, over data that it converts.
     pub converting: Option<Written>,
+    /// What the registry tells of pieces, over a context.
+    pub pieces: Option<Pieced>,
 }
 
 /// The whole text, or none of it.
@@ -50,6 +56,13 @@ pub struct Written {
     pub told: Told,
 }
 
+/// The pieces up to the end, or up to the refusal, and what they come to.
+#[derive(Drop)]
+pub struct Pieced {
+    pub pieces: Vec<Piece>,
+    pub written: Written,
+}
+
 impl Answer {
     /// Renders a row over data in each way that it has.
     pub fn of(alloc: Global, row: &Rendering, data: &JsonValue) -> Result<Answer, AllocError>
@@ -62,18 +75,23 @@ impl Answer {
             ≡ (has_writer row.now && is_over (Over.Context) row.now)) }
         ensures converting { IfOk result (λ a. is_some a.converting
             ≡ (has_writer row.now && is_over (Over.Value) row.now)) }
+        ensures pieces { IfOk result (λ a. is_some a.pieces ≡ has_pieces row.now) }
+        ensures joined { IfOk result (λ a. IfSome a.pieces (λ pieced.
+            string_bytes pieced.written.outcome.text ≡ text_of pieced.pieces.items)) }
     {
         let registry = Handed::asked(alloc, row, data, Over::Context)?;
         let converted = Handed::asked(alloc, row, data, Over::Value)?;
         let template = Written::to_output(alloc, row, data)?;
         let writer = Written::asked(alloc, row, data, Over::Context)?;
         let converting = Written::asked(alloc, row, data, Over::Value)?;
+        let pieces = Pieced::asked(alloc, row, data)?;
         Ok(Answer {
             registry,
             converted,
             template,
             writer,
             converting,
+            pieces,
         })
     }
 
@@ -89,12 +107,15 @@ impl Answer {
             (λ written. IsWritten written.outcome written.told wanted.now) }
         ensures converting { IsTrue result → IfSome self.now.converting
             (λ written. IsWritten written.outcome written.told wanted.now) }
+        ensures pieces { IsTrue result → IfSome self.now.pieces (λ pieced.
+            IsTold pieced.pieces.items pieced.written.outcome pieced.written.told wanted.now) }
     {
         are_handed_out(&self.registry, wanted)
             && are_handed_out(&self.converted, wanted)
             && are_written(&self.template, wanted)
             && are_written(&self.writer, wanted)
             && are_written(&self.converting, wanted)
+            && are_told(&self.pieces, wanted)
     }
 }
 
@@ -114,6 +135,16 @@ fn are_written(written: &Option<Written>, wanted: &Wanted) -> bool
 {
     match written {
         Some(written) => written.comes_to(wanted),
+        None => true,
+    }
+}
+
+fn are_told(pieced: &Option<Pieced>, wanted: &Wanted) -> bool
+    ensures { IsTrue result → IfSome pieced.now (λ pieced.
+        IsTold pieced.pieces.items pieced.written.outcome pieced.written.told wanted.now) }
+{
+    match pieced {
+        Some(pieced) => pieced.comes_to(wanted),
         None => true,
     }
 }
@@ -244,7 +275,9 @@ impl Written {
         answer: &Result<(), RenderError>,
         log: Memory,
         asked: Names,
-    ) -> Result<Written, AllocError> {
+    ) -> Result<Written, AllocError>
+        ensures { IfOk result (λ written. string_bytes written.outcome.text ≡ string_bytes text) }
+    {
         let told = Told::of(alloc, answer, log, asked)?;
         let refusal = match answer {
             Ok(()) => None,
@@ -265,15 +298,51 @@ impl Written {
     }
 }
 
+impl Pieced {
+    fn asked(alloc: Global, row: &Rendering, data: &JsonValue) -> Result<Option<Pieced>, AllocError>
+        ensures asked { IfOk result (λ pieced. is_some pieced ≡ has_pieces row.now) }
+        ensures joined { IfOk result (λ pieced. IfSome pieced (λ pieced.
+            string_bytes pieced.written.outcome.text ≡ text_of pieced.pieces.items)) }
+    {
+        match row.has_pieces() {
+            true => Ok(Some(Pieced::of(alloc, row, data)?)),
+            false => Ok(None),
+        }
+    }
+
+    fn of(alloc: Global, row: &Rendering, data: &JsonValue) -> Result<Pieced, AllocError>
+        ensures { IfOk result (λ pieced.
+            string_bytes pieced.written.outcome.text ≡ text_of pieced.pieces.items) }
+    {
+        let log = Memory::new(alloc);
+        let mut files = Shelf::new(alloc);
+        let mut out = Keeper::new(alloc);
+        let answer = calls::tell(alloc, row, data, &mut out, &log, &mut files);
+        let pieces = out.into_pieces();
+        let text = joined(alloc, pieces.as_slice())?;
+        let written = Written::with(alloc, text, &answer, log, files.take_asked())?;
+        Ok(Pieced { pieces, written })
+    }
+
+    fn comes_to(&self, wanted: &Wanted) -> bool
+        ensures { IsTrue result → IsTold self.now.pieces.items self.now.written.outcome
+            self.now.written.told wanted.now }
+    {
+        self.written.comes_to(wanted) && are_wanted(&self.pieces, &wanted.pieces)
+    }
+}
+
 impl Answer {
-    /// Prints what it comes to in each way, with the marks of texts where marks are wanted.
+    /// Prints what it comes to in each way, with the marks of texts where marks are wanted, and with the pieces where
+    /// pieces are.
     pub fn show<W: fmt::Write>(&self, f: &mut fmt::Formatter<W>, wanted: &Wanted) -> fmt::Result {
         let marked = wanted.marks.is_some();
         show_handed(f, "registry:  ", &self.registry, marked)?;
         show_handed(f, "converted: ", &self.converted, marked)?;
         show_written(f, "template:  ", &self.template, marked)?;
         show_written(f, "writer:    ", &self.writer, marked)?;
-        show_written(f, "converting:", &self.converting, marked)
+        show_written(f, "converting:", &self.converting, marked)?;
+        show_pieced(f, "pieces:    ", &self.pieces, wanted)
     }
 }
 
@@ -310,6 +379,25 @@ fn show_written<W: fmt::Write>(
     let told = &written.told;
     write!(f, "\n    {way} {outcome}")?;
     show_marks(f, outcome.text.as_str(), marked)?;
+    write!(f, "{told}")
+}
+
+fn show_pieced<W: fmt::Write>(
+    f: &mut fmt::Formatter<W>,
+    way: &str,
+    pieced: &Option<Pieced>,
+    wanted: &Wanted,
+) -> fmt::Result {
+    let Some(pieced) = pieced else {
+        return Ok(());
+    };
+    let outcome = &pieced.written.outcome;
+    let told = &pieced.written.told;
+    write!(f, "\n    {way} {outcome}")?;
+    show_marks(f, outcome.text.as_str(), wanted.marks.is_some())?;
+    if wanted.pieces.is_some() {
+        write!(f, "\n      pieces: {}", PiecesOf(pieced.pieces.as_slice()))?;
+    }
     write!(f, "{told}")
 }
 

@@ -1,5 +1,6 @@
-//! The eight calls that render.
+//! The ten calls that render.
 
+use crate::keeper::Keeper;
 use crate::registered::registry_of;
 use crate::shelf::Shelf;
 use handlebars::{Context, JsonValue, Registry, RenderError};
@@ -103,6 +104,25 @@ fn write_over_value(
             registry.render_template_to_write(source.as_str(), data, pen, log, files)
         }
         Rendered::Name(name) => registry.render_to_write(name.as_str(), data, pen, log, files),
+    }
+}
+
+/// What the call that tells of pieces answers over data.
+pub fn tell(
+    alloc: Global,
+    row: &Rendering,
+    data: &JsonValue,
+    out: &mut Keeper,
+    log: &Memory,
+    files: &mut Shelf,
+) -> Result<(), RenderError> {
+    let registry = registry_of(alloc, row, files)?;
+    let data = context(data)?;
+    match &row.rendered {
+        Rendered::Source(source) => {
+            registry.render_template_pieces(source.as_str(), &data, out, log, files)
+        }
+        Rendered::Name(name) => registry.render_pieces(name.as_str(), &data, out, log, files),
     }
 }
 

@@ -6,6 +6,7 @@ mod answer;
 mod answers;
 mod asked;
 mod calls;
+mod keeper;
 mod output;
 mod registered;
 mod row;

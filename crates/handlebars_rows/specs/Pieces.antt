@@ -1,0 +1,48 @@
+-- Pieces, as plain data.
+use Rattle.std.specs.Prelude.{◌≡◌, ℕ, List, [], ◌∷◌, ◌++◌, IfSome, map, Option, option_map, string_bytes}
+use Rattle.std.specs.declared.alloc.Global.{Global}
+use Rattle.std.specs.declared.vec.Vec.{Vec}
+use Rattle.handlebars_base.specs.Bytes.{Text}
+use Rattle.handlebars_template.specs.Place.{Place}
+use Rattle.handlebars_template.specs.TreeView.{place_of}
+use Rattle.handlebars_rows.specs.declared.piece.Kind.{Kind}
+use Rattle.handlebars_rows.specs.declared.piece.Piece.{Piece}
+use Rattle.handlebars_rows.specs.declared.piece.PieceTemplate.{PieceTemplate}
+use Rattle.handlebars_rows.specs.declared.piece.PieceTemplate.TheVariants.{First, Included}
+
+-- the template that is rendered, or one that is included, by its name; an inline partial has none
+pub data TemplateView : Type 0 where
+  the_first : TemplateView
+  the_included : Option Text → TemplateView
+
+abbrev pub template_view : PieceTemplate → TemplateView
+template_view First = the_first
+template_view (Included name) = the_included (option_map string_bytes name)
+
+-- the text and its kind; the template, the place and the turns of the element that writes it; of a value its path
+pub record PieceView : Type 0 where
+  pub text : Text
+  pub kind : Kind
+  pub template : TemplateView
+  pub place : Option Place
+  pub turns : List ℕ
+  pub path : Option (List Text)
+
+abbrev pub piece_view : Piece → PieceView
+piece_view p = record {
+  text = string_bytes p.text;
+  kind = p.kind;
+  template = template_view p.template;
+  place = option_map place_of p.place;
+  turns = p.turns.items;
+  path = option_map (λ names. map string_bytes names.items) p.path;
+}
+
+-- the texts of pieces, joined
+abbrev pub text_of : List Piece → Text
+text_of [] = []
+text_of (p ∷ ps) = string_bytes p.text ++ text_of ps
+
+-- The pieces are these, if any are wanted.
+abbrev pub ArePieces : List Piece → Option (Vec Piece Global) → Type 0
+ArePieces pieces wanted = IfSome wanted (λ ps. map piece_view pieces ≡ map piece_view ps.items)

@@ -1,0 +1,80 @@
+//! An output that keeps what it is told of pieces.
+
+use handlebars::{Heard, Origin, PieceKind, PieceOutput, Standing};
+use handlebars_rows::piece::{Kind, Piece, PieceTemplate};
+use std::alloc::{AllocError, Global};
+use std::io;
+
+/// Keeps each piece.
+#[derive(Drop)]
+pub struct Keeper {
+    alloc: Global,
+    pieces: Vec<Piece>,
+    heard: Heard,
+}
+
+impl Keeper {
+    /// Has none yet.
+    pub fn new(alloc: Global) -> Keeper {
+        Keeper {
+            alloc,
+            pieces: Vec::new(alloc),
+            heard: Heard::nothing(),
+        }
+    }
+
+    /// Those that it was told of, in order.
+    pub fn into_pieces(self) -> Vec<Piece> {
+        self.pieces
+    }
+}
+
+impl PieceOutput for Keeper {
+    ghost told = { λ o. o.heard.told };
+
+    fn piece(&mut self, text: &str, origin: &Origin<'_>) -> Result<(), io::Error> {
+        let piece = kept(self.alloc, text, origin)?;
+        self.pieces.push(piece)?;
+        self.heard = self.heard.and(text.as_bytes(), origin);
+        Ok(())
+    }
+}
+
+fn kept(alloc: Global, text: &str, origin: &Origin<'_>) -> Result<Piece, AllocError> {
+    Ok(Piece {
+        text: String::from_str(alloc, text)?,
+        kind: kind_of(origin.kind),
+        template: template_of(alloc, origin.spot.template)?,
+        place: origin.spot.place.copied(),
+        turns: origin.spot.turns.to_vec(alloc)?,
+        path: path_of(origin.path)?,
+    })
+}
+
+fn kind_of(kind: PieceKind) -> Kind {
+    match kind {
+        PieceKind::TemplateText => Kind::TemplateText,
+        PieceKind::Indentation => Kind::Indentation,
+        PieceKind::EscapedValue => Kind::EscapedValue,
+        PieceKind::RawValue => Kind::RawValue,
+        PieceKind::HelperWord => Kind::HelperWord,
+        PieceKind::OwnText => Kind::OwnText,
+    }
+}
+
+fn template_of(alloc: Global, template: Standing<'_>) -> Result<PieceTemplate, AllocError> {
+    match template {
+        Standing::First => Ok(PieceTemplate::First),
+        Standing::Included(None) => Ok(PieceTemplate::Included(None)),
+        Standing::Included(Some(name)) => {
+            Ok(PieceTemplate::Included(Some(String::from_str(alloc, name)?)))
+        }
+    }
+}
+
+fn path_of(path: Option<&Vec<String>>) -> Result<Option<Vec<String>>, AllocError> {
+    match path {
+        Some(names) => Ok(Some(names.clone()?)),
+        None => Ok(None),
+    }
+}
