@@ -1,5 +1,6 @@
 -- Pieces, as plain data.
-use Rattle.std.specs.Prelude.{◌≡◌, ℕ, List, [], ◌∷◌, ◌++◌, IfSome, map, Option, option_map, string_bytes}
+use Rattle.std.specs.List.{flat_map}
+use Rattle.std.specs.Prelude.{◌≡◌, ℕ, List, IfSome, map, Option, option_map, string_bytes}
 use Rattle.std.specs.declared.alloc.Global.{Global}
 use Rattle.std.specs.declared.vec.Vec.{Vec}
 use Rattle.handlebars_base.specs.Bytes.{Text}
@@ -40,8 +41,7 @@ piece_view p = record {
 
 -- the texts of pieces, joined
 abbrev pub text_of : List Piece → Text
-text_of [] = []
-text_of (p ∷ ps) = string_bytes p.text ++ text_of ps
+text_of pieces = flat_map (λ p. string_bytes p.text) pieces
 
 -- The pieces are these, if any are wanted.
 abbrev pub ArePieces : List Piece → Option (Vec Piece Global) → Type 0

@@ -1,11 +1,14 @@
 //! Pieces of a text, each with where it comes from.
 
+ghost use Rattle.std.specs.Prelude.{◌≡◌, IsTrue, map, option_map, string_bytes};
+ghost use Rattle.handlebars_rows.specs.Pieces.{piece_view, template_view};
+
 use crate::json_text::JsonText;
 use handlebars_template::template::TemplateMapping;
 use std::fmt;
 
 /// A piece of a text, as an output is told of it.
-#[derive(PartialEq, Drop)]
+#[derive(Drop)]
 pub struct Piece {
     pub text: String,
     pub kind: Kind,
@@ -30,7 +33,7 @@ pub enum Kind {
 }
 
 /// The template in which an element stands.
-#[derive(PartialEq, Drop)]
+#[derive(Drop)]
 pub enum PieceTemplate {
     /// The one that is rendered.
     First,
@@ -62,6 +65,49 @@ impl Kind {
             Kind::OwnText => "own",
         }
     }
+}
+
+impl Piece {
+    /// Whether both are one piece.
+    pub fn equals(&self, other: &Piece) -> bool
+        ensures { IsTrue result → piece_view self.now ≡ piece_view other.now }
+    {
+        self.text == other.text
+            && self.kind == other.kind
+            && self.template.equals(&other.template)
+            && self.place == other.place
+            && self.turns == other.turns
+            && are_one_path(&self.path, &other.path)
+    }
+}
+
+impl PieceTemplate {
+    fn equals(&self, other: &PieceTemplate) -> bool
+        ensures { IsTrue result → template_view self.now ≡ template_view other.now }
+    {
+        match (self, other) {
+            (PieceTemplate::First, PieceTemplate::First) => true,
+            (PieceTemplate::Included(own), PieceTemplate::Included(others)) => *own == *others,
+            _ => false,
+        }
+    }
+}
+
+fn are_one_path(own: &Option<Vec<String>>, others: &Option<Vec<String>>) -> bool
+    ensures { IsTrue result → option_map (λ names. map string_bytes names.items) own.now
+        ≡ option_map (λ names. map string_bytes names.items) others.now }
+{
+    match (own, others) {
+        (None, None) => true,
+        (Some(own), Some(others)) => are_one(own, others),
+        _ => false,
+    }
+}
+
+fn are_one(own: &Vec<String>, others: &Vec<String>) -> bool
+    ensures { IsTrue result → map string_bytes own.now.items ≡ map string_bytes others.now.items }
+{
+    *own == *others
 }
 
 // As a row has it: what is missing there isn't printed.

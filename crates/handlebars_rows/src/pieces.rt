@@ -1,7 +1,8 @@
 //! Pieces, one after another: how they are read from a row, what is wanted of them, and their text.
 
-ghost use Rattle.std.specs.Prelude.{◌≡◌, IfOk, IsTrue, string_bytes};
-ghost use Rattle.handlebars_rows.specs.Pieces.{ArePieces, text_of};
+ghost use Rattle.std.specs.Prelude.{◌≡◌, List, ◌∷◌, IfOk, IfSome, IsTrue, map, string_bytes};
+ghost use Rattle.handlebars_rows.specs.Pieces.{ArePieces, piece_view, text_of};
+ghost use Rattle.handlebars_rows.specs.declared.piece.Piece.{Piece};
 
 use crate::failure::RowFailure;
 use crate::fields;
@@ -16,8 +17,36 @@ pub fn are_wanted(pieces: &Vec<Piece>, wanted: &Option<Vec<Piece>>) -> bool
     ensures { IsTrue result → ArePieces pieces.now.items wanted.now }
 {
     match wanted {
-        Some(wanted) => *pieces == *wanted,
+        Some(wanted) => are_one(pieces.as_slice(), wanted.as_slice()),
         None => true,
+    }
+}
+
+// Whether both are one list of pieces.
+fn are_one(pieces: &[Piece], others: &[Piece]) -> bool
+    ensures { IsTrue result → map piece_view pieces.now ≡ map piece_view others.now }
+{
+    let mut left = others;
+    for piece in pieces {
+        match behind(piece, left) {
+            Some(rest) => left = rest,
+            None => return false,
+        }
+    }
+    left.is_empty()
+}
+
+// Those behind the first of these, if that is this piece.
+fn behind<'p>(piece: &Piece, others: &'p [Piece]) -> Option<&'p [Piece]>
+    ensures { IfSome result (λ left. (rest : List Piece) → map piece_view rest ≡ map piece_view left.now
+        → map piece_view (piece.now ∷ rest) ≡ map piece_view others.now) }
+{
+    match others.split_first() {
+        Some((other, rest)) => match piece.equals(other) {
+            true => Some(rest),
+            false => None,
+        },
+        None => None,
     }
 }
 
