@@ -14,7 +14,8 @@ printed_as Marks first told =
     if brings_mark told.provenance.kind told.text then line_of first told else []
 printed_as Page first told = []
 
--- Behind what a writer held and what was gathered for it, this text is held or gathered now, where the writer tells what it holds.
+-- Behind what a writer held and what was gathered for it, this text is held or gathered now. Of a writer that doesn't tell what
+-- it holds nothing is said.
 abbrev pub PrintsBehind : Option Text → Text → Text → Option Text → Text → Type 0
 PrintsBehind before gathered text after left =
     (held : Text) → before ≡ Some held → (now : Text) × (after ≡ Some now) × (now ++ left ≡ (held ++ gathered) ++ text)

@@ -3,9 +3,7 @@
 use crate::failure::Failure;
 use crate::printer::Printer;
 use crate::request::Request;
-use handlebars::{
-    Context, DirectorySourceOptions, JsonValue, NoFiles, Registry, RenderError, TemplateReader,
-};
+use handlebars::{Context, DirectorySourceOptions, JsonValue, NoFiles, Registry, TemplateReader};
 use log::sink::Discard;
 use std::alloc::Global;
 use std::io;
@@ -41,16 +39,12 @@ fn print_pieces<'a, O: Write>(
     written(printer.begin())?;
     match registry.render_template_pieces(source, context, printer, &Discard, &mut NoFiles) {
         Ok(()) => written(printer.end(None)),
-        Err(cause) => Err(stopped(cause, printer)),
+        Err(cause) => {
+            // Where the end can't be printed, the refusal is told alone: it came first.
+            let _ = printer.end(Some(&cause));
+            Err(cause.into())
+        }
     }
-}
-
-// Where the end can't be printed, the refusal is told alone: it came first.
-fn stopped<'a, O: Write>(cause: RenderError, printer: &mut Printer<'_, O>) -> Failure<'a>
-    ensures { result ≡ Failure.Refused cause }
-{
-    let _ = printer.end(Some(&cause));
-    Failure::Refused(cause)
 }
 
 fn written<'a>(answer: io::Result<()>) -> Result<(), Failure<'a>> {

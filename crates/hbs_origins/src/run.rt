@@ -34,7 +34,7 @@ pub fn run<R: TemplateReader, O: Write, E: Write>(
             Ok(()) => 0,
             Err(failure) => report(&failure, err),
         },
-        Err(cause) => report(&cause.into(), err),
+        Err(_) => report(&Failure::OutOfMemory, err),
     }
 }
 
