@@ -1,5 +1,5 @@
 -- The words of the command line.
-use Rattle.std.specs.Prelude.{Bool, false, if◌then◌else◌, List, [], ◌∷◌, Option, Some, None, is_some, unwrap_or, MatchOption, codes, string_bytes}
+use Rattle.std.specs.Prelude.{Bool, false, if◌then◌else◌, List, [], ◌∷◌, Option, Some, None, is_some, unwrap_or, codes, string_bytes}
 use Rattle.std.specs.Str.{bytes_eq}
 use Rattle.handlebars_base.specs.Bytes.{Text}
 use Rattle.hbs_origins.specs.declared.request.Form.{Form}
