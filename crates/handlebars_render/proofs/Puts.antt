@@ -223,12 +223,15 @@ module _ (may : Error → Type 0) where
   pub text-no_memory : (t : Text) (s : State) (h : Holding) (r : Result CodeLine BoxedError)
       → IsErrAnd r (λ e. reason_in (error_of e) ≡ out_of_memory) → TellsLine (PutsText t may) (at s h) (answer_of r) h
   text-no_memory t s h (Ok line) is = absurd is
-  text-no_memory t s h (Err e) is = (tt, text_part (record {
-    front = [];
-    is_front = (_, refl);
-    text = sym (append-nil h.text);
-    faults = refl;
-  }) is)
+  text-no_memory t s h (Err e) is = (
+    tt,
+    text_part (record {
+      front = [];
+      is_front = (_, refl);
+      text = sym (append-nil h.text);
+      faults = refl;
+    }) is,
+  )
 
   -- ---- pieces
 

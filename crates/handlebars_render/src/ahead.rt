@@ -55,12 +55,7 @@ impl Ahead {
     }
 
     /// Keeps a piece.
-    pub fn keep(
-        &mut self,
-        alloc: Global,
-        text: &str,
-        origin: &Origin<'_>,
-    ) -> Result<(), AllocError>
+    pub fn keep(&mut self, alloc: Global, text: &str, origin: &Origin<'_>) -> Result<(), AllocError>
         ensures ok { OnOk result (ahead_told self.new ≡ ahead_told self.old ++ told_seen text.now origin.now ∷ []) }
         ensures err { OnErr result (ahead_told self.new ≡ ahead_told self.old) }
     {
@@ -148,10 +143,7 @@ fn copied_turns(alloc: Global, turns: &[usize]) -> Result<Vec<usize>, AllocError
     Ok(copy)
 }
 
-fn copied_path(
-    alloc: Global,
-    path: Option<&Vec<String>>,
-) -> Result<Option<Vec<String>>, AllocError>
+fn copied_path(alloc: Global, path: Option<&Vec<String>>) -> Result<Option<Vec<String>>, AllocError>
     ensures { IfOk result (λ copy. option_map (λ names. names_in names.items) copy ≡ path_view path.entry) }
 {
     match path {

@@ -178,12 +178,7 @@ fn settle_told<'a, O, T: Telling<O>, P: Registered>(
     };
     match found.as_json() {
         Some(value) => settle_found(environment, value, found.context_path(), rc, sink),
-        None => settle_missing(
-            helper,
-            environment,
-            CowStr::Borrowed(path.raw()),
-            rc,
-        ),
+        None => settle_missing(helper, environment, CowStr::Borrowed(path.raw()), rc),
     }
 }
 

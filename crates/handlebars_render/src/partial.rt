@@ -20,8 +20,8 @@ ghost use Rattle.handlebars_render.specs.PiecesView.{template_seen};
 ghost use Rattle.handlebars_render.specs.Judgement.{Carries, CarriesWith, Stays};
 ghost use Rattle.handlebars_render.specs.View.{CarriesAhead, CarriesOn, HasNodes, Holding, IsKept, Keeps, KeptIn, Stands, StandsAs, StandsIn, held_in, moment, setting_in, state_of, state_with, within};
 
-use crate::block::leave_call;
 use crate::ahead::{Ahead, Kept};
+use crate::block::leave_call;
 use crate::boxed::BoxedError;
 use crate::called::view_of_tag;
 use crate::context::RenderContext;

@@ -53,7 +53,14 @@ pub(super) fn tell_text<O, T: Telling<O>, P>(
         spot: *environment.spot,
         path,
     };
-    match tell_put(environment.alloc, environment.indent, rc.line(), text, &origin, sink) {
+    match tell_put(
+        environment.alloc,
+        environment.indent,
+        rc.line(),
+        text,
+        &origin,
+        sink,
+    ) {
         Ok(()) => Ok(rc.line().behind(text)),
         Err(e) => Err(e),
     }
@@ -228,7 +235,14 @@ fn tell_escaped<O, T: Telling<O>, P>(
         return tell_text(environment, value_kind(rc), path, text, rc, sink);
     }
     let escaped = escape_html(environment.alloc, text)?;
-    tell_text(environment, value_kind(rc), path, escaped.as_str(), rc, sink)
+    tell_text(
+        environment,
+        value_kind(rc),
+        path,
+        escaped.as_str(),
+        rc,
+        sink,
+    )
 }
 
 /// The kind of a value that is written: an escaped one where escaping is on.

@@ -91,7 +91,11 @@ impl Expand for Parameter {
             read: &NoTrees,
             log,
         };
-        match value::expand(&outside(alloc, parts, data, &Bases::Outside, &Spot::first()), rc, self) {
+        match value::expand(
+            &outside(alloc, parts, data, &Bases::Outside, &Spot::first()),
+            rc,
+            self,
+        ) {
             Ok(value) => fail_after(rc, Ok(value)),
             Err(e) => fail_after(rc, Err(e.into_error())),
         }
@@ -111,7 +115,11 @@ impl Expand for Parameter {
             read: &NoTrees,
             log,
         };
-        match value::expand_as_name(&outside(alloc, parts, data, &Bases::Outside, &Spot::first()), rc, self) {
+        match value::expand_as_name(
+            &outside(alloc, parts, data, &Bases::Outside, &Spot::first()),
+            rc,
+            self,
+        ) {
             Ok(name) => fail_after(rc, Ok(name)),
             Err(e) => fail_after(rc, Err(e.into_error())),
         }

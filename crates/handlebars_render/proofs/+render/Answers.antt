@@ -671,12 +671,17 @@ block::render_tag-call_each-requires g t c κs inside = (
   (
     inside.0,
     (
-      inside.1.0, (inside.1.1, (
-        c.requires.nodes,
-        (rw c.in-Ok-Each.field-0-is at
-            (c.in-Ok-Each.ensures.comes (site-for (spot_in c.args.environment.now))
-            (λ is. site-for-whereabouts (spot_in c.args.environment.now)) (kept-any (within c.args.environment.now)))).0.1,
-      ))),
+      inside.1.0,
+      (
+        inside.1.1,
+        (
+          c.requires.nodes,
+          (rw c.in-Ok-Each.field-0-is at
+              (c.in-Ok-Each.ensures.comes (site-for (spot_in c.args.environment.now))
+              (λ is. site-for-whereabouts (spot_in c.args.environment.now)) (kept-any (within c.args.environment.now)))).0.1,
+        ),
+      ),
+    ),
   ),
 )
 
@@ -686,12 +691,17 @@ block::render_tag-call_with-requires g t c κs inside = (
   (
     inside.0,
     (
-      inside.1.0, (inside.1.1, (
-        c.requires.nodes,
-        (rw c.in-Ok-With.field-0-is at
-            (c.in-Ok-With.ensures.comes (site-for (spot_in c.args.environment.now))
-            (λ is. site-for-whereabouts (spot_in c.args.environment.now)) (kept-any (within c.args.environment.now)))).0.1,
-      ))),
+      inside.1.0,
+      (
+        inside.1.1,
+        (
+          c.requires.nodes,
+          (rw c.in-Ok-With.field-0-is at
+              (c.in-Ok-With.ensures.comes (site-for (spot_in c.args.environment.now))
+              (λ is. site-for-whereabouts (spot_in c.args.environment.now)) (kept-any (within c.args.environment.now)))).0.1,
+        ),
+      ),
+    ),
   ),
 )
 
@@ -701,7 +711,9 @@ block::call_each-render_each-answer-requires g t c κs inside = (
   (
     inside.0,
     (
-      inside.1.0, (inside.1.1, (nodes-kept _ _ c.enter_call.ensures.kept c.requires.nodes, rw (c.deref.ensures, c.deref-2.ensures) c.requires.node))),
+      inside.1.0,
+      (inside.1.1, (nodes-kept _ _ c.enter_call.ensures.kept c.requires.nodes, rw (c.deref.ensures, c.deref-2.ensures) c.requires.node)),
+    ),
   ),
 )
 
@@ -711,12 +723,17 @@ block::call_with-render_in-answer-requires g t c κs inside = (
   (
     inside.0,
     (
-      inside.1.0, (inside.1.1, (
-        nodes-kept _ _ c.enter_call.ensures.kept c.requires.nodes,
-        rw c.deref-2.ensures
-            (subst (λ (names : List Text). IsNode (data_of c.args.environment.now.given.now) names (Some (view c.args.place.value.node.now)))
-            (sym (ap (λ (f : Frame). f.base_path) (rw c.deref.ensures at c.in_ok-scope.ensures))) c.requires.node),
-      ))),
+      inside.1.0,
+      (
+        inside.1.1,
+        (
+          nodes-kept _ _ c.enter_call.ensures.kept c.requires.nodes,
+          rw c.deref-2.ensures
+              (subst (λ (names : List Text). IsNode (data_of c.args.environment.now.given.now) names (Some (view c.args.place.value.node.now)))
+              (sym (ap (λ (f : Frame). f.base_path) (rw c.deref.ensures at c.in_ok-scope.ensures))) c.requires.node),
+        ),
+      ),
+    ),
   ),
 )
 
@@ -730,7 +747,9 @@ tree::render_tree-render_placed-requires g t c κs inside = (
   (
     inside.0,
     (
-      inside.1.0, (inside.1.1, nodes-kept _ _ c.elements.invariant.kept (nodes-kept _ _ c.in_ok-enter.ensures.kept c.requires.nodes))),
+      inside.1.0,
+      (inside.1.1, nodes-kept _ _ c.elements.invariant.kept (nodes-kept _ _ c.in_ok-enter.ensures.kept c.requires.nodes)),
+    ),
   ),
 )
 
@@ -744,9 +763,14 @@ each::take_turns-render_turn-requires g t c κs inside = (
   (
     inside.0,
     (
-      inside.1.0, (inside.1.1, nodes-turned _ _ (path_view c.args.path) _ (turn_view c.in-Some.turn) c.block-bases.ensures.nodes c.behind.ensures.nodes
-          (ap (λ (s : State). s.blocks) (c.in_ok-set_up_turn.ensures.ok c.turns.invariant.below))
-          (c.turn_node.ensures _ (path_view c.args.path) c.requires.node) c.turns.invariant.outer c.requires.nodes)),
+      inside.1.0,
+      (
+        inside.1.1,
+        nodes-turned _ _ (path_view c.args.path) _ (turn_view c.in-Some.turn) c.block-bases.ensures.nodes c.behind.ensures.nodes
+            (ap (λ (s : State). s.blocks) (c.in_ok-set_up_turn.ensures.ok c.turns.invariant.below))
+            (c.turn_node.ensures _ (path_view c.args.path) c.requires.node) c.turns.invariant.outer c.requires.nodes,
+      ),
+    ),
   ),
 )
 
@@ -756,7 +780,12 @@ partial::include_tree-render_under-requires g t c κs inside = (
   (
     inside.0,
     (
-      inside.1.0, (inside.1.1, nodes-kept _ _ c.in-Ok-render_ahead.ensures.kept
-          (nodes-pushed _ c.block-bases.ensures.nodes (ap (λ (s : State). s.blocks) c.in_ok-name.ensures.ok) tt c.requires.nodes))),
+      inside.1.0,
+      (
+        inside.1.1,
+        nodes-kept _ _ c.in-Ok-render_ahead.ensures.kept
+            (nodes-pushed _ c.block-bases.ensures.nodes (ap (λ (s : State). s.blocks) c.in_ok-name.ensures.ok) tt c.requires.nodes),
+      ),
+    ),
   ),
 )
