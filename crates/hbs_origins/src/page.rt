@@ -47,13 +47,20 @@ pub fn add_begin(gathered: &mut Vec<u8>, first: &str) -> io::Result<()> {
     add_plain(gathered, LEGEND)
 }
 
-/// Adds what stands behind all pieces, with why there are no more, where they were refused.
+/// Adds what stands behind all pieces, with why there are no more, where they were refused. Where memory runs out for that, the
+/// page ends without it.
 pub fn add_end(gathered: &mut Vec<u8>, cause: Option<&RenderError>) -> io::Result<()> {
     add_plain(gathered, "</pre>\n")?;
-    if let Some(cause) = cause {
-        add_refusal(gathered, cause)?;
+    let len = gathered.len();
+    let told = match cause {
+        Some(cause) => add_refusal(gathered, cause),
+        None => Ok(()),
+    };
+    if told.is_err() {
+        gathered.truncate(len);
     }
-    add_plain(gathered, "</body>\n</html>\n")
+    add_plain(gathered, "</body>\n</html>\n")?;
+    told
 }
 
 fn add_refusal(gathered: &mut Vec<u8>, cause: &RenderError) -> io::Result<()> {

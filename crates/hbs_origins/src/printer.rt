@@ -64,11 +64,17 @@ impl<'p, W: Write> Printer<'p, W> {
         let added = match self.form {
             Form::Lines => Ok(()),
             Form::Marks => Ok(()),
-            Form::Page => add_end(&mut self.gathered, cause),
+            Form::Page => self.end_page(cause),
         };
         self.pour()?;
         self.out.flush()?;
         added
+    }
+
+    // What was gathered goes first: then there is room for the end, also where memory ran out.
+    fn end_page(&mut self, cause: Option<&RenderError>) -> io::Result<()> {
+        self.pour()?;
+        add_end(&mut self.gathered, cause)
     }
 
     fn add(&mut self, text: &str, origin: &Origin<'_>) -> io::Result<()>
