@@ -2,11 +2,11 @@ use Rattle.handlebars_render.proofs.Puts.{text_ahead, text_ahead_cut, text_all, 
 use Rattle.handlebars_render.proofs.sink.Sink.write_in_line.Goals as goal
 
 pub returns-in-Ok-clause-writes : goal.returns-in-Ok-clause-writes
-returns-in-Ok-clause-writes g c = rw c.in-Out.is (text_all _ _ _ c.in-Ok.ensures.written)
+returns-in-Ok-clause-writes g c = rw c.in-Out.is (text_all _ _ _ (c.in-Ok.ensures.written c.requires.untold))
 
 pub returns-in-Err-clause-writes : goal.returns-in-Err-clause-writes
 returns-in-Err-clause-writes g c = rw c.in-Out.is
-    (text_fault _ _ _ c.in-Err.fault c.in-Err.ensures.written c.in-Err.ensures.given c.told_fault.ensures)
+    (text_fault _ _ _ c.in-Err.fault (c.in-Err.ensures.written c.requires.untold) c.in-Err.ensures.given c.told_fault.ensures)
 
 pub returns-in-Ok-write_in_line-clause-writes : goal.returns-in-Ok-write_in_line-clause-writes
 returns-in-Ok-write_in_line-clause-writes g c = rw c.in-Ahead.is
