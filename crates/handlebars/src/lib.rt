@@ -46,6 +46,7 @@ pub use handlebars_render::heard::Heard;
 pub use handlebars_render::pieces::{Origin, PieceKind, PieceOutput, Spot, Standing};
 pub use handlebars_render::write::indent_aware_write;
 pub use handlebars_scope::block::{BlockContext, BlockParamHolder, BlockParams};
+pub use handlebars_scope::context::full_path::FullPath;
 pub use handlebars_scope::context::{Context, Object};
 pub use handlebars_scope::indentation::{with_indent, write_indented};
 pub use handlebars_scope::local_vars::LocalVars;

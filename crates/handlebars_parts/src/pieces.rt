@@ -1,6 +1,6 @@
 //! An output of a caller's own that holds each piece that it was told of, with all that was told of it.
 
-use handlebars::{Heard, Origin, PieceKind, PieceOutput, Standing, TemplateMapping};
+use handlebars::{FullPath, Heard, Origin, PieceKind, PieceOutput, Standing, TemplateMapping};
 use std::alloc::{AllocError, Global};
 use std::io::ErrorKind;
 use std::{fmt, io};
@@ -26,7 +26,7 @@ pub struct HeldPiece {
 impl HeldPiece {
     fn of(alloc: Global, text: &str, origin: &Origin<'_>) -> Result<HeldPiece, AllocError> {
         let template = held_standing(alloc, origin.spot.template)?;
-        let path = held_path(origin.path)?;
+        let path = held_path(alloc, origin.path)?;
         let turns = origin.spot.turns.to_vec(alloc)?;
         Ok(HeldPiece {
             kind: origin.kind,
@@ -64,9 +64,9 @@ fn held_place(place: Option<&TemplateMapping>) -> Option<(usize, usize)> {
     }
 }
 
-fn held_path(path: Option<&Vec<String>>) -> Result<Option<Vec<String>>, AllocError> {
+fn held_path(alloc: Global, path: Option<FullPath<'_>>) -> Result<Option<Vec<String>>, AllocError> {
     match path {
-        Some(path) => Ok(Some(path.clone()?)),
+        Some(path) => Ok(Some(path.copied(alloc)?)),
         None => Ok(None),
     }
 }

@@ -17,6 +17,7 @@ mod Kept
 mod Lists
 mod Evaluates
 mod LoneValues
+mod Located
 mod Ordered
 mod Values
 mod OwnSteps

@@ -127,3 +127,7 @@ module _ (p : Setting) (s : State) where
   pub valued-path : (q : Param) (r : Reference) (v : Found) → q ≡ path r → HasValue p s (path r) (gives v)
       → HasValue p s q (gives v)
   valued-path q r v same has = subst (λ (z : Param). HasValue p s z (gives v)) (sym same) has
+
+  pub refused-path : (r : Reference) (why given : Refusal) → refuses why ≡ path_value p s r → given ≡ why
+      → HasValue p s (path r) (refuses given)
+  refused-path r why given e same = subst (λ (z : Refusal). HasValue p s (path r) (refuses z)) (sym same) e

@@ -6,8 +6,8 @@ use denote.Ref.{Bor}
 use Rattle.handlebars_base.specs.Bytes.{Text}
 use Rattle.handlebars_base.specs.Outputs.{held_of}
 use Rattle.handlebars_template.specs.TreeView.{place_of}
-use Rattle.handlebars_scope.specs.WayView.{names_in}
-use Rattle.handlebars_helpers.specs.View.{path_view}
+use Rattle.handlebars_scope.specs.WayView.{names_in, names_on}
+use Rattle.handlebars_scope.specs.declared.context.full_path.FullPath.{FullPath}
 use Rattle.handlebars_meaning.specs.Sites.{Template, the_first, the_included, Whereabouts}
 use Rattle.handlebars_meaning.specs.Told.{Kind, template_text, indentation, escaped_value, raw_value, helper_word, own_text, Provenance, Told}
 use Rattle.handlebars_render.specs.declared.pieces.PieceKind.{PieceKind}
@@ -51,8 +51,12 @@ spot_seen x = record {
   place = option_map (λ m. place_of m.now) x.place;
 }
 
+-- the path of a value, where it has one
+abbrev pub path_seen : Option FullPath → Option (List Text)
+path_seen path = option_map names_on path
+
 abbrev pub origin_seen : Origin → Provenance
-origin_seen o = record { kind = kind_seen o.kind; stands = spot_seen o.spot; path = path_view o.path }
+origin_seen o = record { kind = kind_seen o.kind; stands = spot_seen o.spot; path = path_seen o.path }
 
 abbrev pub told_seen : Text → Origin → Told
 told_seen t o = record { text = t; provenance = origin_seen o }

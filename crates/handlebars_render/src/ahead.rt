@@ -2,11 +2,11 @@
 
 ghost use Rattle.std.specs.Prelude.{◌≡◌, ◌++◌, ◌∷◌, [], IfOk, OnErr, OnOk, option_map};
 ghost use Rattle.handlebars_scope.specs.WayView.{names_in};
-ghost use Rattle.handlebars_helpers.specs.View.{path_view};
-ghost use Rattle.handlebars_render.specs.PiecesView.{ahead_plain, ahead_told, kept_template, kept_told, origin_seen, plain_text, template_seen, told_by, told_seen};
+ghost use Rattle.handlebars_render.specs.PiecesView.{ahead_plain, ahead_told, kept_template, kept_told, origin_seen, path_seen, plain_text, template_seen, told_by, told_seen};
 
-use crate::pieces::{Origin, PieceKind, Spot, Standing};
+use crate::pieces::{Origin, PieceKind, Spot, Standing, full_path};
 use handlebars_base::output::StringOutput;
+use handlebars_scope::context::full_path::FullPath;
 use handlebars_template::template::TemplateMapping;
 use std::alloc::{AllocError, Global};
 
@@ -108,7 +108,7 @@ impl KeptPiece {
                 place: self.place.as_ref(),
                 turns: self.turns.as_slice(),
             },
-            path: self.path.as_ref(),
+            path: full_path(self.path.as_ref()),
         }
     }
 }
@@ -143,28 +143,11 @@ fn copied_turns(alloc: Global, turns: &[usize]) -> Result<Vec<usize>, AllocError
     Ok(copy)
 }
 
-fn copied_path(alloc: Global, path: Option<&Vec<String>>) -> Result<Option<Vec<String>>, AllocError>
-    ensures { IfOk result (λ copy. option_map (λ names. names_in names.items) copy ≡ path_view path.entry) }
+fn copied_path(alloc: Global, path: Option<FullPath<'_>>) -> Result<Option<Vec<String>>, AllocError>
+    ensures { IfOk result (λ copy. option_map (λ names. names_in names.items) copy ≡ path_seen path.entry) }
 {
     match path {
-        Some(names) => Ok(Some(copied_names(alloc, names)?)),
+        Some(path) => Ok(Some(path.copied(alloc)?)),
         None => Ok(None),
     }
-}
-
-fn copied_names(alloc: Global, names: &[String]) -> Result<Vec<String>, AllocError>
-    ensures { IfOk result (λ copy. names_in copy.items ≡ names_in names.now) }
-{
-    let mut copy = Vec::new(alloc);
-    push_names(&mut copy, names)?;
-    Ok(copy)
-}
-
-fn push_names(copy: &mut Vec<String>, names: &[String]) -> Result<(), AllocError>
-    ensures { OnOk result (names_in copy.new.items ≡ names_in copy.old.items ++ names_in names.now) }
-{
-    for name in names {
-        copy.push(name.clone()?)?;
-    }
-    Ok(())
 }

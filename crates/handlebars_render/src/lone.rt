@@ -13,12 +13,12 @@ ghost use Rattle.handlebars_template.specs.Tree.{Call, as_name, call_name, is_va
 ghost use Rattle.handlebars_template.specs.Tree as tree;
 ghost use Rattle.handlebars_template.specs.TreeView.{call_view, param_view, subexpression_view};
 ghost use Rattle.handlebars_helpers.specs.CallView.{CallView};
-ghost use Rattle.handlebars_helpers.specs.View.{path_view};
 ghost use Rattle.handlebars_meaning.specs.Sites.{Site};
 ghost use Rattle.handlebars_meaning.specs.Means.{render_found, render_lone, render_lone_as};
 ghost use Rattle.handlebars_meaning.specs.Values.{HasName, HasValue, callee_name};
 ghost use Rattle.handlebars_render.specs.Boxed.{answer_of, error_of};
 ghost use Rattle.handlebars_render.specs.Next.{ComesTo, Settles};
+ghost use Rattle.handlebars_render.specs.PiecesView.{path_seen};
 ghost use Rattle.handlebars_render.specs.Judgement.{AtMoment, InState};
 ghost use Rattle.handlebars_render.specs.View.{HasNodes, IsSame, KeptIn, Stands, held_in, moment, name_alone, setting_in, state_with, within};
 
@@ -29,14 +29,17 @@ use crate::called::Called;
 use crate::context::RenderContext;
 use crate::environment::Environment;
 use crate::next::{Next, to_call};
+use crate::pieces::full_path;
 use crate::registered::{Registered, helper_named, hook, hooked};
 use crate::sink::Sink;
 use crate::telling::Telling;
-use crate::value::{find, inner_value, written};
+use crate::value::{inner_value, written};
 use crate::write::write_found;
 use handlebars_base::error::RenderErrorReason;
 use handlebars_base::json::path::Path;
 use handlebars_base::json::value::{Json, JsonRender, ScopedJson};
+use handlebars_scope::context::full_path::FullPath;
+use handlebars_scope::context::located::Located;
 use handlebars_scope::context::reached::Reached;
 use handlebars_template::template::{HelperTemplate, Parameter, Subexpression};
 use std::alloc::{AllocError, Global};
@@ -154,7 +157,7 @@ fn settle_path<'a, O, T: Telling<O>, P: Registered>(
     }
 }
 
-// The same where pieces are told: the value is found with its own path.
+// The same where pieces are told: the value is found with its full path.
 #[inline(never)]
 fn settle_told<'a, O, T: Telling<O>, P: Registered>(
     helper: &'a HelperTemplate,
@@ -172,13 +175,12 @@ fn settle_told<'a, O, T: Telling<O>, P: Registered>(
         T.way.may_give before (answer_of result) held) }
     ensures same { IsSame sink.old sink.new }
 {
-    let found = match find(environment, rc, path) {
-        Ok(found) => found,
-        Err(e) => return Err(e),
-    };
-    match found.as_json() {
-        Some(value) => settle_found(environment, value, found.context_path(), rc, sink),
-        None => settle_missing(helper, environment, CowStr::Borrowed(path.raw()), rc),
+    match rc.locate(environment.given.data(), path, environment.bases) {
+        Located::Value(value, full) => settle_found(environment, value, full, rc, sink),
+        Located::Nothing => {
+            settle_missing(helper, environment, CowStr::Borrowed(path.raw()), rc)
+        }
+        Located::NoIndex(name) => Err(not_an_index(environment.alloc, name)),
     }
 }
 
@@ -211,7 +213,10 @@ fn settle_value<'a, O, T: Telling<O>, P: Registered>(
             Called::alone(environment.alloc, CowStr::Owned(name)),
         ),
         None => match value.as_json() {
-            Some(json) => settle_found(environment, json, value.context_path(), rc, sink),
+            Some(json) => {
+                let path = full_path(value.context_path());
+                settle_found(environment, json, path, rc, sink)
+            }
             None => settle_missing(helper, environment, CowStr::Owned(name), rc),
         },
     }
@@ -222,13 +227,13 @@ fn settle_value<'a, O, T: Telling<O>, P: Registered>(
 fn settle_found<'a, O, T: Telling<O>, P: Registered>(
     environment: &Environment<'_, 'a, P>,
     value: &Json,
-    path: Option<&Vec<String>>,
+    path: Option<FullPath<'_>>,
     rc: &RenderContext,
     sink: &mut Sink<'_, O, T>,
 ) -> Result<Next<'a>, BoxedError>
     ensures comes { (c : Call) (v : CallView) (found : Found) (site : Site) → Stands T.way.asks environment.now site → (kept : KeptIn (within environment.now))
         → HasValue (setting_in P.parts environment.now) (state_with kept rc.now) (call_name c) (gives found)
-        → present_in found ≡ Some (view value.now) → (T.way.asks ≡ true → path_in found ≡ path_view path.entry)
+        → present_in found ≡ Some (view value.now) → (T.way.asks ≡ true → path_in found ≡ path_seen path.entry)
         → ComesTo (setting_in P.parts environment.now) site false c (render_lone_as site c v None)
         T.way.may_give (moment kept rc.now (held_in T.way sink.old)) (answer_of result) (held_in T.way sink.new) }
     ensures same { IsSame sink.old sink.new }

@@ -2,10 +2,12 @@
 
 ghost use Rattle.std.specs.Prelude.{◌≡◌, ◌++◌, ◌∷◌, [], IfErr, List, None, OnErr, OnOk};
 ghost use Rattle.std.specs.declared.io.Error.{Error};
+ghost use Rattle.handlebars_helpers.specs.View.{path_view};
 ghost use Rattle.handlebars_meaning.specs.Sites.{the_first};
 ghost use Rattle.handlebars_meaning.specs.Told.{Told};
-ghost use Rattle.handlebars_render.specs.PiecesView.{kind_name, kind_seen, spot_seen, told_seen};
+ghost use Rattle.handlebars_render.specs.PiecesView.{kind_name, kind_seen, path_seen, spot_seen, told_seen};
 
+use handlebars_scope::context::full_path::FullPath;
 use handlebars_template::template::TemplateMapping;
 use std::{fmt, io};
 
@@ -85,7 +87,17 @@ impl Spot<'_> {
 pub struct Origin<'p> {
     pub kind: PieceKind,
     pub spot: Spot<'p>,
-    pub path: Option<&'p Vec<String>>,
+    pub path: Option<FullPath<'p>>,
+}
+
+/// The full path that names are, if there are any.
+pub(crate) fn full_path(names: Option<&Vec<String>>) -> Option<FullPath<'_>>
+    ensures { path_seen result ≡ path_view names.entry }
+{
+    match names {
+        Some(names) => Some(FullPath::of(names.as_slice())),
+        None => None,
+    }
 }
 
 /// Is told of each piece of a rendering's text, in order.

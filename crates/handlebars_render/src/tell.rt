@@ -4,7 +4,6 @@ ghost use Rattle.std.specs.Prelude.{◌≡◌, ◌∷◌, [], ℕ, List, Some, f
 ghost use Rattle.serde_json.specs.View.{view};
 ghost use Rattle.handlebars_base.specs.Shown.{escaped_if};
 ghost use Rattle.handlebars_base.specs.Values as values;
-ghost use Rattle.handlebars_helpers.specs.View.{path_view};
 ghost use Rattle.handlebars_scope.specs.Indentation.{lines_of, takes_indent};
 ghost use Rattle.handlebars_scope.specs.LineView.{line_of};
 ghost use Rattle.handlebars_meaning.specs.Pieces as meaning;
@@ -13,7 +12,7 @@ ghost use Rattle.handlebars_meaning.specs.Sites.{Site, whereabouts};
 ghost use Rattle.handlebars_meaning.specs.Told.{provenance, told};
 ghost use Rattle.handlebars_meaning.specs.Writing.{rendered_if_any};
 ghost use Rattle.handlebars_render.specs.Boxed.{answer_of};
-ghost use Rattle.handlebars_render.specs.PiecesView.{kept_told, kind_seen, origin_seen};
+ghost use Rattle.handlebars_render.specs.PiecesView.{kept_told, kind_seen, origin_seen, path_seen};
 ghost use Rattle.handlebars_render.specs.Tells.{provenance_in, value_kind};
 ghost use Rattle.handlebars_render.specs.View.{IsSame, KeptIn, held_in, moment, spot_in, state_of, within};
 ghost use Rattle.handlebars_render.specs.Writes.{Puts, TellsLine, WritesAsIs};
@@ -28,6 +27,7 @@ use crate::telling::Telling;
 use crate::write::word_text;
 use handlebars_base::json::value::{Json, JsonRender};
 use handlebars_base::support::escape_html;
+use handlebars_scope::context::full_path::FullPath;
 use handlebars_scope::line::LineState;
 use std::alloc::Global;
 
@@ -36,14 +36,14 @@ use std::alloc::Global;
 pub(super) fn tell_text<O, T: Telling<O>, P>(
     environment: &Environment<P>,
     kind: PieceKind,
-    path: Option<&Vec<String>>,
+    path: Option<FullPath<'_>>,
     text: &str,
     rc: &RenderContext,
     sink: &mut Sink<'_, O, T>,
 ) -> Result<LineState, BoxedError>
     requires told { T.way.asks ≡ true }
     ensures puts { (kept : KeptIn (within environment.now)) (o : meaning.Origin)
-        → provenance o ≡ provenance_in environment.now (kind_seen kind) (path_view path.entry)
+        → provenance o ≡ provenance_in environment.now (kind_seen kind) (path_seen path.entry)
         → TellsLine (Puts o text.now T.way.may_give) (moment kept rc.now (held_in T.way sink.old)) (answer_of result)
         (held_in T.way sink.new) }
     ensures same { IsSame sink.old sink.new }
@@ -192,13 +192,13 @@ pub(super) fn tell_value<O, T: Telling<O>, P>(
     environment: &Environment<P>,
     entities: bool,
     value: Option<&Json>,
-    path: Option<&Vec<String>>,
+    path: Option<FullPath<'_>>,
     rc: &RenderContext,
     sink: &mut Sink<'_, O, T>,
 ) -> Result<LineState, BoxedError>
     requires told { T.way.asks ≡ true }
     ensures puts { (kept : KeptIn (within environment.now)) (o : meaning.Origin)
-        → provenance o ≡ provenance_in environment.now (value_kind (state_of rc.now).escapes) (path_view path.entry)
+        → provenance o ≡ provenance_in environment.now (value_kind (state_of rc.now).escapes) (path_seen path.entry)
         → TellsLine (Puts o (escaped_if entities (rendered_if_any (option_map (λ v. view v.now) value.entry))) T.way.may_give)
         (moment kept rc.now (held_in T.way sink.old)) (answer_of result) (held_in T.way sink.new) }
     ensures same { IsSame sink.old sink.new }
@@ -220,13 +220,13 @@ fn tell_escaped<O, T: Telling<O>, P>(
     environment: &Environment<P>,
     entities: bool,
     text: &str,
-    path: Option<&Vec<String>>,
+    path: Option<FullPath<'_>>,
     rc: &RenderContext,
     sink: &mut Sink<'_, O, T>,
 ) -> Result<LineState, BoxedError>
     requires told { T.way.asks ≡ true }
     ensures puts { (kept : KeptIn (within environment.now)) (o : meaning.Origin)
-        → provenance o ≡ provenance_in environment.now (value_kind (state_of rc.now).escapes) (path_view path.entry)
+        → provenance o ≡ provenance_in environment.now (value_kind (state_of rc.now).escapes) (path_seen path.entry)
         → TellsLine (Puts o (escaped_if entities text.now) T.way.may_give)
         (moment kept rc.now (held_in T.way sink.old)) (answer_of result) (held_in T.way sink.new) }
     ensures same { IsSame sink.old sink.new }

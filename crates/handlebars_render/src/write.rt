@@ -10,12 +10,12 @@ ghost use Rattle.handlebars_base.specs.Values as values;
 ghost use Rattle.handlebars_helpers.specs.Escaping.{by_own};
 ghost use Rattle.handlebars_helpers.specs.EscapeView.{escaping_of};
 ghost use Rattle.handlebars_helpers.specs.OwnView.{IsOneOf};
-ghost use Rattle.handlebars_helpers.specs.View.{path_view};
 ghost use Rattle.handlebars_meaning.specs.Pieces.{Piece, of_step, of_text, of_word, pieces_of};
 ghost use Rattle.handlebars_meaning.specs.Sites.{Site};
 ghost use Rattle.handlebars_meaning.specs.Writing as meaning;
 ghost use Rattle.handlebars_meaning.specs.Writing.{rendered_if_any};
 ghost use Rattle.handlebars_render.specs.Boxed.{answer_of};
+ghost use Rattle.handlebars_render.specs.PiecesView.{path_seen};
 ghost use Rattle.handlebars_render.specs.Shows.{entities_by};
 ghost use Rattle.handlebars_render.specs.Judgement.{AtMoment, CarriesWith};
 ghost use Rattle.handlebars_render.specs.View.{AreKept, CarriesOn, IsKept, IsSame, KeptIn, Stands, Within, first_moment, held_in, moment, setting_in, state_of, within};
@@ -34,6 +34,7 @@ use handlebars_base::error::RenderError;
 use handlebars_base::json::value::{Json, JsonRender};
 use handlebars_base::output::{Output, output_fault};
 use handlebars_helpers::escape::Escaping;
+use handlebars_scope::context::full_path::FullPath;
 use handlebars_scope::line::LineState;
 use serde_json::Number;
 use std::alloc::{AllocError, Global};
@@ -133,13 +134,13 @@ fn write_text_under<O, T: Telling<O>>(
 pub(super) fn write_found<O, T: Telling<O>, P: Registered>(
     environment: &Environment<P>,
     value: Option<&Json>,
-    path: Option<&Vec<String>>,
+    path: Option<FullPath<'_>>,
     rc: &RenderContext,
     sink: &mut Sink<'_, O, T>,
 ) -> Result<LineState, BoxedError>
     ensures shows { (site : Site) → Stands T.way.asks environment.now site → (kept : KeptIn (within environment.now)) (found : Found)
         → rendered_if_any (present_in found) ≡ rendered_if_any (option_map (λ v. view v.now) value.entry)
-        → (T.way.asks ≡ true → path_in found ≡ path_view path.entry)
+        → (T.way.asks ≡ true → path_in found ≡ path_seen path.entry)
         → TellsLine (CarriesOn (setting_in P.parts environment.now) (meaning.write_value site found) T.way.may_give)
         (moment kept rc.now (held_in T.way sink.old)) (answer_of result) (held_in T.way sink.new) }
     ensures same { IsSame sink.old sink.new }
@@ -241,13 +242,13 @@ fn write_value_under<O, T: Telling<O>>(
 fn write_escaped<O, T: Telling<O>, P: Registered>(
     environment: &Environment<P>,
     value: Option<&Json>,
-    path: Option<&Vec<String>>,
+    path: Option<FullPath<'_>>,
     rc: &RenderContext,
     sink: &mut Sink<'_, O, T>,
 ) -> Result<LineState, BoxedError>
     ensures shows { (site : Site) → Stands T.way.asks environment.now site → (kept : KeptIn (within environment.now)) (found : Found)
         → rendered_if_any (present_in found) ≡ rendered_if_any (option_map (λ v. view v.now) value.entry)
-        → (T.way.asks ≡ true → path_in found ≡ path_view path.entry)
+        → (T.way.asks ≡ true → path_in found ≡ path_seen path.entry)
         → by_own ≡ (P.parts environment.now.parts.now).escape → (state_of rc.now).escapes ≡ true
         → TellsLine (CarriesOn (setting_in P.parts environment.now) (meaning.write_value site found) T.way.may_give)
         (moment kept rc.now (held_in T.way sink.old)) (answer_of result) (held_in T.way sink.new) }

@@ -75,11 +75,11 @@ kept-within n i None (Some found) (Some earlier) is fits kept =
     subst (λ m. m ≤ n) (sym same) kept
 
 -- the full path of what is found
-pub found_front-kept : (base : List (String Global)) (kept : ℕ) (path : List (String Global)) (name : Text) (d : Data)
-    → names_in path ≡ names_in (take kept base) ++ name ∷ []
-    → found_front (names_in base) name (Some (kept, d)) ≡ walked d (names_in path)
-found_front-kept base kept path name d is =
-    ap (λ names. walked d (names ++ name ∷ [])) (take-map string_bytes kept base) ∙ ap (walked d) (sym is)
+pub found_front-kept : (base : List (String Global)) (kept : ℕ) (names : List Text) (name : Text) (d : Data)
+    → names ≡ names_in (take kept base) ++ name ∷ []
+    → found_front (names_in base) name (Some (kept, d)) ≡ walked d names
+found_front-kept base kept names name d is =
+    ap (λ (ns : List Text). walked d (ns ++ name ∷ [])) (take-map string_bytes kept base) ∙ ap (walked d) (sym is)
 
 -- ---- the law
 

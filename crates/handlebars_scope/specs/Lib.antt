@@ -9,6 +9,7 @@ pub mod LineState
 pub mod LineView
 pub mod ScopeView
 pub mod Seeking
+pub mod Located
 pub mod WayView
 pub mod Lending
 pub mod Indentation

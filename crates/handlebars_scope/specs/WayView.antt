@@ -15,6 +15,7 @@ use Rattle.handlebars_scope.specs.ScopeView.{frame_of}
 use Rattle.handlebars_scope.specs.declared.block.BlockContext.{BlockContext}
 use Rattle.handlebars_scope.specs.Resolve.{Way, within, along, under_front, names_of}
 use Rattle.handlebars_scope.specs.declared.context.bases.Lent.{Lent}
+use Rattle.handlebars_scope.specs.declared.context.full_path.FullPath.{FullPath}
 use Rattle.handlebars_scope.specs.declared.context.way.Way.{Way as CodeWay}
 use Rattle.handlebars_scope.specs.declared.context.way.Way.TheVariants.{Within, Along, UnderFront}
 use Rattle.handlebars_scope.specs.declared.context.reached.Reached.{Reached}
@@ -27,6 +28,13 @@ lent_frame b = with_base (option_map (λ v. view v.now) b.1.base) (frame_of b.0.
 -- the names that texts are
 abbrev pub names_in : List (String Global) → List Text
 names_in names = map string_bytes names
+
+abbrev pub lent_names : List (Bor Text) → List Text
+lent_names names = map (λ n. n.now) names
+
+-- the names of a full path, from the data to its value
+abbrev pub names_on : FullPath → List Text
+names_on p = names_in p.base.now ++ (names_in p.bound.now ++ names_of (segments_of p.rest.now))
 
 abbrev pub way_view : CodeWay → Way
 way_view (Within held rest) = within (view held.now) (names_of (segments_of rest.now))

@@ -13,7 +13,8 @@ ghost use Rattle.handlebars_base.specs.RenderRefusals.{reason_in, spot_of};
 
 pub mod bases;
 mod fronts;
-mod full_path;
+pub mod full_path;
+pub mod located;
 pub mod looked_up;
 pub mod members;
 pub mod place;

@@ -1,6 +1,6 @@
 //! An output that keeps what it is told of pieces.
 
-use handlebars::{Heard, Origin, PieceKind, PieceOutput, Standing};
+use handlebars::{FullPath, Heard, Origin, PieceKind, PieceOutput, Standing};
 use handlebars_rows::piece::{Kind, Piece, PieceTemplate};
 use std::alloc::{AllocError, Global};
 use std::io;
@@ -47,7 +47,7 @@ fn kept(alloc: Global, text: &str, origin: &Origin<'_>) -> Result<Piece, AllocEr
         template: template_of(alloc, origin.spot.template)?,
         place: origin.spot.place.copied(),
         turns: origin.spot.turns.to_vec(alloc)?,
-        path: path_of(origin.path)?,
+        path: path_of(alloc, origin.path)?,
     })
 }
 
@@ -72,9 +72,9 @@ fn template_of(alloc: Global, template: Standing<'_>) -> Result<PieceTemplate, A
     }
 }
 
-fn path_of(path: Option<&Vec<String>>) -> Result<Option<Vec<String>>, AllocError> {
+fn path_of(alloc: Global, path: Option<FullPath<'_>>) -> Result<Option<Vec<String>>, AllocError> {
     match path {
-        Some(names) => Ok(Some(names.clone()?)),
+        Some(path) => Ok(Some(path.copied(alloc)?)),
         None => Ok(None),
     }
 }

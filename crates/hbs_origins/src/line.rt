@@ -1,16 +1,16 @@
 //! The line of JSON that a piece is printed as.
 
-ghost use Rattle.std.specs.Prelude.{◌≡◌, [], ◌∷◌, ◌++◌, decimal, map, option_map, OnErr, OnOk, string_bytes};
+ghost use Rattle.std.specs.Prelude.{◌≡◌, [], ◌∷◌, ◌++◌, decimal, map, option_map, OnErr, OnOk};
 ghost use Rattle.handlebars_base.specs.Outputs.{IsPrefix};
-ghost use Rattle.handlebars_helpers.specs.View.{path_view};
-ghost use Rattle.handlebars_render.specs.PiecesView.{kind_seen, spot_seen, template_seen, told_seen};
+ghost use Rattle.handlebars_render.specs.PiecesView.{kind_seen, path_seen, spot_seen, template_seen, told_seen};
+ghost use Rattle.handlebars_scope.specs.WayView.{lent_names};
 ghost use Rattle.handlebars_template.specs.TreeView.{place_of};
 ghost use Rattle.hbs_origins.specs.Line.{line_of, line_tokens, path_tokens, place_tokens, spot_tokens, template_token, text_tokens, told_tokens};
 ghost use Rattle.json.specs.Token.{number, string};
 
-use handlebars::{Origin, PieceKind, Spot, Standing, TemplateMapping};
+use handlebars::{FullPath, Origin, PieceKind, Spot, Standing, TemplateMapping};
 use json::Writer;
-use std::alloc::AllocError;
+use std::alloc::{AllocError, Global};
 use std::mem;
 
 /// Adds the line of a piece to what is gathered, with this word for the template that is rendered. Where memory runs out,
@@ -48,7 +48,7 @@ fn add_parts(
 {
     let alloc = *gathered.allocator();
     let mut writer = Writer::new(mem::replace(gathered, Vec::new(alloc)));
-    let answer = write_object(&mut writer, first, text, origin);
+    let answer = write_object(alloc, &mut writer, first, text, origin);
     *gathered = writer.into_inner();
     match answer {
         Ok(()) => gathered.extend_from_slice(b"\n"),
@@ -57,6 +57,7 @@ fn add_parts(
 }
 
 fn write_object(
+    alloc: Global,
     writer: &mut Writer,
     first: &str,
     text: &str,
@@ -67,11 +68,12 @@ fn write_object(
     ensures before { writer.new.before ≡ writer.old.before }
 {
     writer.begin_object()?;
-    write_told(writer, first, text, origin)?;
+    write_told(alloc, writer, first, text, origin)?;
     writer.end_object()
 }
 
 fn write_told(
+    alloc: Global,
     writer: &mut Writer,
     first: &str,
     text: &str,
@@ -84,7 +86,7 @@ fn write_told(
     write_text(writer, text, origin.kind)?;
     write_spot(writer, first, &origin.spot)?;
     writer.key("path")?;
-    write_path(writer, origin.path)
+    write_path(alloc, writer, origin.path)
 }
 
 fn write_text(writer: &mut Writer, text: &str, kind: PieceKind) -> Result<(), AllocError>
@@ -160,13 +162,18 @@ fn write_turns(writer: &mut Writer, turns: &[usize]) -> Result<(), AllocError>
     Ok(())
 }
 
-fn write_path(writer: &mut Writer, path: Option<&Vec<String>>) -> Result<(), AllocError>
+fn write_path(
+    alloc: Global,
+    writer: &mut Writer,
+    path: Option<FullPath<'_>>,
+) -> Result<(), AllocError>
     ensures ok { OnOk result
-        (writer.new.tokens ≡ writer.old.tokens ++ path_tokens (path_view path.entry)) }
+        (writer.new.tokens ≡ writer.old.tokens ++ path_tokens (path_seen path.entry)) }
     ensures before { writer.new.before ≡ writer.old.before }
 {
     match path {
-        Some(names) => {
+        Some(path) => {
+            let names = path.names(alloc)?;
             writer.begin_array()?;
             write_names(writer, names.as_slice())?;
             writer.end_array()
@@ -175,13 +182,13 @@ fn write_path(writer: &mut Writer, path: Option<&Vec<String>>) -> Result<(), All
     }
 }
 
-fn write_names(writer: &mut Writer, names: &[String]) -> Result<(), AllocError>
+fn write_names(writer: &mut Writer, names: &[&str]) -> Result<(), AllocError>
     ensures ok { OnOk result
-        (writer.new.tokens ≡ writer.old.tokens ++ map string (map string_bytes names.now)) }
+        (writer.new.tokens ≡ writer.old.tokens ++ map string (lent_names names.now)) }
     ensures before { writer.new.before ≡ writer.old.before }
 {
     for name in names {
-        writer.string(name.as_str())?;
+        writer.string(*name)?;
     }
     Ok(())
 }

@@ -108,7 +108,8 @@ fn is_blank(text: &str) -> bool {
 fn add_origin(gathered: &mut Vec<u8>, first: &str, origin: &Origin<'_>) -> io::Result<()> {
     write!(gathered, "{}", origin.kind)?;
     if let Some(path) = origin.path {
-        add_path(gathered, path.as_slice())?;
+        let names = path.names(*gathered.allocator())?;
+        add_path(gathered, names.as_slice())?;
     }
     add_plain(gathered, ": ")?;
     add_template(gathered, first, origin.spot.template)?;
@@ -118,14 +119,14 @@ fn add_origin(gathered: &mut Vec<u8>, first: &str, origin: &Origin<'_>) -> io::R
     add_turns(gathered, origin.spot.turns)
 }
 
-fn add_path(gathered: &mut Vec<u8>, names: &[String]) -> io::Result<()> {
+fn add_path(gathered: &mut Vec<u8>, names: &[&str]) -> io::Result<()> {
     if names.is_empty() {
         return add_plain(gathered, " of the data");
     }
     let mut before = " of ";
     for name in names {
         add_plain(gathered, before)?;
-        add_escaped(gathered, name.as_str())?;
+        add_escaped(gathered, *name)?;
         before = ".";
     }
     Ok(())

@@ -2,14 +2,15 @@
 
 ghost use Rattle.std.specs.Prelude.{◌≡◌, ◌≢◌, [], IfOk, IfErr, IfSome, Some, false, option_map};
 ghost use Rattle.serde_json.specs.View.{view};
-ghost use Rattle.handlebars_base.specs.Answers.{Answers, answer_map, gives, refuses};
+ghost use Rattle.handlebars_base.specs.Answers.{Answer, Answers, answer_map, gives, refuses};
 ghost use Rattle.handlebars_base.specs.Path.{relative};
 ghost use Rattle.handlebars_base.specs.PathView.{reference_of};
 ghost use Rattle.handlebars_base.specs.Reasons.{out_of_memory};
 ghost use Rattle.handlebars_base.specs.RenderRefusals.{reason_in, refusal_of};
-ghost use Rattle.handlebars_base.specs.Scoped.{found_of, is_constant, present_in};
+ghost use Rattle.handlebars_base.specs.Scoped.{Found, found_of, is_constant, present_in};
 ghost use Rattle.handlebars_scope.specs.Bases.{IsNode, NodesLead, bases_of, lend, nodes_of};
 ghost use Rattle.handlebars_scope.specs.Contexts.{data_of};
+ghost use Rattle.handlebars_scope.specs.Located.{located_of};
 ghost use Rattle.handlebars_scope.specs.Placing.{IsPlaced};
 ghost use Rattle.handlebars_scope.specs.Resolve.{resolve};
 ghost use Rattle.handlebars_scope.specs.WayView.{names_in, reached_of};
@@ -22,6 +23,7 @@ use handlebars_base::error::RenderError;
 use handlebars_base::json::path::Path;
 use handlebars_base::json::value::{Json, ScopedJson};
 use handlebars_scope::context::bases::Bases;
+use handlebars_scope::context::located::{Located, locate};
 use handlebars_scope::context::place::Placed;
 use handlebars_scope::context::reached::Reached;
 use handlebars_scope::context::{Context, walk};
@@ -74,6 +76,31 @@ impl RenderContext {
             Reached::Value(value) => Reached::Value(value),
             Reached::Nothing => Reached::Value(self.null.value()),
             Reached::NoIndex(name) => Reached::NoIndex(name),
+        }
+    }
+
+    // What a path leads to in these blocks and this data where it wasn't changed, with the full path of a value of the data;
+    // nothing is copied.
+    pub(crate) fn locate<'v: 'n, 'n>(
+        &'v self,
+        given: &'v Json,
+        path: &'n Path,
+        bases: &'v Bases<'v, 'v>,
+    ) -> Located<'v, 'n>
+        requires nodes { NodesLead (nodes_of bases.now) (state_of self.now).blocks (view given.now) }
+        ensures { located_of result
+            ≡ read_in (lending (bases_of bases.now) (state_of self.now)) (view given.now) (reference_of path.now) }
+    {
+        match &self.changed {
+            None => locate(
+                given,
+                path,
+                &self.blocks.all,
+                bases,
+                self.recursive_lookup,
+                &self.looked_up,
+            ),
+            Some(context) => without_path(self.reach_changed(context, path, bases)),
         }
     }
 
@@ -212,5 +239,17 @@ impl RenderContext {
     /// of a block, and in its evaluations. It stays at 2^64 - 1 once it is there.
     pub fn looked_up(&self) -> u64 {
         self.looked_up.members()
+    }
+}
+
+// What was reached in changed data, where no value has a path.
+fn without_path<'v, 'n>(reached: Reached<'v, 'n>) -> Located<'v, 'n>
+    ensures { (sought : Answer Found) → reached_of reached.entry ≡ answer_map present_in (answer_map values.without_path sought)
+        → located_of result ≡ answer_map values.without_path sought }
+{
+    match reached {
+        Reached::Value(value) => Located::Value(value, None),
+        Reached::Nothing => Located::Nothing,
+        Reached::NoIndex(name) => Located::NoIndex(name),
     }
 }

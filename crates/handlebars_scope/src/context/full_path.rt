@@ -3,10 +3,94 @@
 ghost use Rattle.std.specs.Prelude.{◌≡◌, ◌++◌, ◌∷◌, [], IfOk, OnOk, string_bytes};
 ghost use Rattle.handlebars_base.specs.PathView.{segments_of};
 ghost use Rattle.handlebars_scope.specs.Resolve.{names_of};
-ghost use Rattle.handlebars_scope.specs.WayView.{names_in};
+ghost use Rattle.handlebars_scope.specs.WayView.{lent_names, names_in, names_on};
 
 use handlebars_base::json::path::PathSeg;
 use std::alloc::{AllocError, Global};
+use std::slice;
+
+/// The names that lead to a value from the data. They are lent: those of a base path, of what is bound below it, and of segments.
+#[derive(Clone, Copy)]
+pub struct FullPath<'n> {
+    base: &'n [String],
+    bound: &'n [String],
+    rest: &'n [PathSeg],
+}
+
+impl<'n> FullPath<'n> {
+    /// These names.
+    pub fn of(names: &'n [String]) -> FullPath<'n>
+        ensures { names_on result ≡ names_in names.now }
+    {
+        FullPath {
+            base: names,
+            bound: &[],
+            rest: &[],
+        }
+    }
+
+    /// The names of a base path, of what is bound below it, and of segments.
+    pub(super) fn joined(
+        base: &'n [String],
+        bound: &'n [String],
+        rest: &'n [PathSeg],
+    ) -> FullPath<'n>
+        ensures { names_on result ≡ names_in base.now ++ (names_in bound.now ++ names_of (segments_of rest.now)) }
+    {
+        FullPath { base, bound, rest }
+    }
+
+    /// The names of a front of a base path, and a name.
+    pub(super) fn front(kept: &'n [String], name: &'n String) -> FullPath<'n>
+        ensures { names_on result ≡ names_in kept.now ++ string_bytes name.now ∷ [] }
+    {
+        FullPath {
+            base: kept,
+            bound: slice::from_ref(name),
+            rest: &[],
+        }
+    }
+
+    /// Its names, lent, from the data to the value.
+    pub fn names(&self, alloc: Global) -> Result<Vec<&'n str>, AllocError>
+        ensures { IfOk result (λ names. lent_names names.items ≡ names_on self.now) }
+    {
+        let mut names = Vec::new(alloc);
+        lend_names(&mut names, self.base)?;
+        lend_names(&mut names, self.bound)?;
+        lend_segments(&mut names, self.rest)?;
+        Ok(names)
+    }
+
+    /// A copy of its names.
+    pub fn copied(&self, alloc: Global) -> Result<Vec<String>, AllocError>
+        ensures { IfOk result (λ path. names_in path.items ≡ names_on self.now) }
+    {
+        joined(alloc, self.base, self.bound, self.rest)
+    }
+}
+
+fn lend_names<'n>(names: &mut Vec<&'n str>, more: &'n [String]) -> Result<(), AllocError>
+    ensures { OnOk result (lent_names names.new.items ≡ lent_names names.old.items ++ names_in more.now) }
+{
+    for name in more {
+        names.push(name.as_str())?;
+    }
+    Ok(())
+}
+
+// Adds the names of segments.
+fn lend_segments<'n>(names: &mut Vec<&'n str>, segments: &'n [PathSeg]) -> Result<(), AllocError>
+    ensures { OnOk result (lent_names names.new.items ≡ lent_names names.old.items ++ names_of (segments_of segments.now)) }
+{
+    for segment in segments {
+        match segment {
+            PathSeg::Named(name) => names.push(name.as_str())?,
+            PathSeg::Ruled(_) => {}
+        }
+    }
+    Ok(())
+}
 
 /// The names of a front of a base path, and a name.
 pub fn front(alloc: Global, kept: &[String], name: &String) -> Result<Vec<String>, AllocError>

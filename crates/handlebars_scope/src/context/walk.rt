@@ -331,7 +331,11 @@ fn follow<'v: 'n, 'n>(
 }
 
 // The variable of the block so many blocks up.
-fn variable_at<'b>(blocks: &'b VecDeque<BlockContext>, level: usize, name: &str) -> Option<&'b Json>
+pub(super) fn variable_at<'b>(
+    blocks: &'b VecDeque<BlockContext>,
+    level: usize,
+    name: &str,
+) -> Option<&'b Json>
     ensures { option_map (λ v. view v.now) result ≡ variable_at (frames_of blocks.now.items) level name.now }
 {
     match blocks.get(level) {
@@ -356,7 +360,7 @@ fn copied<'a>(found: Option<&Json>) -> Result<ScopedJson<'a>, AllocError>
 // Along a base path, what is bound below it, and the names of segments: from the node that the base path leads to, where
 // that is known.
 #[inline(always)]
-fn along<'v, 'n>(
+pub(super) fn along<'v, 'n>(
     given: &'v Json,
     node: Option<&'v Json>,
     base: &'n [String],

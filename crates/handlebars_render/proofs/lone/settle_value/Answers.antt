@@ -33,7 +33,7 @@ returns-in-Some-as_json-clause-comes g c = λ lone site stands kept named has.
     (leaves-value _ site (call_view c.args.helper.now) (callee_name (found_of c.args.value)) lone named
     (c.in-None.ensures false ∙ ap (helper_named (g.P.Registered.parts c.args.environment.now.parts.now) (state_with kept c.args.rc.now)) (c.as_str.ensures.value ∙ c.in_ok-name.ensures)))
     (c.settle_found.ensures.comes (call_view c.args.helper.now) (name_alone (callee_name (found_of c.args.value))) (found_of c.args.value)
-    site stands kept has (sym c.in-Some-as_json.ensures) (λ on. sym c.context_path.ensures))
+    site stands kept has (sym c.in-Some-as_json.ensures) (λ on. sym c.context_path.ensures ∙ sym c.full_path-path.ensures))
 
 pub returns-clause-comes : goal.returns-clause-comes
 returns-clause-comes g c = λ lone site stands kept named has.

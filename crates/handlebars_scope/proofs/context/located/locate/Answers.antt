@@ -1,0 +1,17 @@
+use Rattle.std.proofs.Common.{rules, ◌≡◌, ◌∙◌, string_bytes}
+use Rattle.serde_json.specs.View.{view}
+use Rattle.handlebars_base.specs.PathView.{reference_of}
+use Rattle.handlebars_scope.specs.Bases.{bases_of}
+use Rattle.handlebars_scope.specs.Located.{located_of}
+use Rattle.handlebars_scope.specs.Resolve.{resolve}
+use Rattle.handlebars_scope.specs.ScopeView.{frames_of}
+use Rattle.handlebars_scope.proofs.Bases.{resolve-variable}
+use Rattle.handlebars_scope.proofs.context.located.locate.Goals as goal
+
+pub returns-in-Local : goal.returns-in-Local
+returns-in-Local c =
+    let own : located_of c.held.result ≡ resolve c.args.recursive
+    (frames_of c.args.blocks.now.items) (reference_of c.args.path.now) (view c.args.given.now) = search rules in
+    own ∙ rw c.in-Local.is (resolve-variable c.args.recursive (bases_of c.args.bases.now)
+    (frames_of c.args.blocks.now.items) c.in-Local.level (string_bytes c.in-Local.name) (string_bytes c.in-Local.field-0-2)
+    (view c.args.given.now))
