@@ -168,7 +168,7 @@ fn render_turn<'a, O, T: Telling<O>, P: Registered>(
 fn with_turn(alloc: Global, turns: &[usize], turn: usize) -> Result<Vec<usize>, AllocError>
     ensures { IfOk result (λ all. all.items ≡ turns.now ++ turn ∷ []) }
 {
-    let mut all = Vec::new(alloc);
+    let mut all = Vec::with_capacity(alloc, turns.len().saturating_add(1))?;
     all.extend_from_slice(turns)?;
     all.push(turn)?;
     Ok(all)

@@ -205,7 +205,8 @@ fn include_tree<'a, O, T: Telling<O>, P: Registered>(
     answer
 }
 
-// Renders a tree as one more inclusion, for which this text is kept, or none, under the indentation of the view.
+// Renders a tree as one more inclusion, for which this text is kept, or none, under the indentation of the view; in its template,
+// where pieces are told.
 #[cycle(render)]
 fn render_under<'a, O, T: Telling<O>, P: Registered>(
     tree: &'a Template,
@@ -225,6 +226,15 @@ fn render_under<'a, O, T: Telling<O>, P: Registered>(
         (answer_of result) (moment kept rc.new (held_in T.way sink.new)) }
     ensures stays { Stays rc sink }
 {
+    if !T::asks() {
+        let nearer = Environment {
+            inclusions: count,
+            kept,
+            indent: view.indent(),
+            ..*environment
+        };
+        return render_tree(tree, &nearer, rc, sink);
+    }
     let spot = Spot {
         template,
         ..*environment.spot

@@ -587,10 +587,16 @@ partial::render_kept-returns-in-Some-clause-renders g t c = λ site stands kept 
 
 -- ---- a tree that is included
 
+pub partial::render_under-returns-then-not-asks-clause-renders : goal.partial::render_under-returns-then-not-asks-clause-renders
+partial::render_under-returns-then-not-asks-clause-renders g t c = λ at stands kept keeps.
+    under-same _ _ _ (option_map (λ k. k.now) c.args.kept) c.args.count (within c.args.environment.now).bases (perform (Whole at (tree_view c.args.tree.now)))
+    (state_of c.args.rc.now) (state_of c.render_tree.new.rc) c.indent.ensures
+    (λ k. c.render_tree.ensures.renders at (stands-unasked (sym c.asks.ensures ∙ c.if-not-asks.true)) k) kept keeps
+
 pub partial::render_under-returns-clause-renders : goal.partial::render_under-returns-clause-renders
 partial::render_under-returns-clause-renders g t c = λ at stands kept keeps.
     under-same _ _ _ (option_map (λ k. k.now) c.args.kept) c.args.count (within c.args.environment.now).bases (perform (Whole at (tree_view c.args.tree.now)))
-    (state_of c.args.rc.now) (state_of c.render_tree.new.rc) c.indent.ensures (λ k. c.render_tree.ensures.renders at stands k) kept keeps
+    (state_of c.args.rc.now) (state_of c.render_tree-2.new.rc) c.indent-2.ensures (λ k. c.render_tree-2.ensures.renders at stands k) kept keeps
 
 pub partial::include_tree-returns-in-Err-clause-renders : goal.partial::include_tree-returns-in-Err-clause-renders
 partial::include_tree-returns-in-Err-clause-renders g t c = λ site stands there standing kept keeps.
