@@ -1,8 +1,8 @@
 -- Where elements stand.
-use Rattle.std.proofs.Common.{◌≡◌, ℕ, Bool, true, false, true≢false, List, [], ◌∷◌, ◌++◌, Option, None, Some, refl, sym, ap, ◌∙◌, append_assoc, append-nil}
+use Rattle.std.proofs.Common.{◌≡◌, ℕ, Bool, true, false, true≢false, List, [], ◌∷◌, ◌++◌, Option, None, refl, sym, ap, ◌∙◌, append_assoc, append-nil}
 use Rattle.handlebars_template.specs.Place.{Place}
 use Rattle.handlebars_template.specs.Tree.{Tree, tree, no_elements, tree_name}
-use Rattle.handlebars_meaning.specs.Sites.{Around, Site, Template, TreeSite, Whereabouts, around, as_part, as_turn, body_at, element_in, first_tree, included_at, inverse_at, template_at, the_first, the_included, turns_at, whereabouts}
+use Rattle.handlebars_meaning.specs.Sites.{Around, Site, Template, TreeSite, Whereabouts, around, as_turn, body_at, element_in, first_tree, included_at, template_at, the_first, the_included, turns_at, whereabouts}
 use Rattle.handlebars_render.proofs.Leads.{part_site}
 
 -- Where it isn't asked for, it may be anything.

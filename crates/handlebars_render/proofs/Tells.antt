@@ -1,17 +1,15 @@
 -- Pieces that are handed over, one after another.
-use Rattle.std.proofs.Common.{◌≡◌, ◌≢◌, ℕ, zero, suc, ◌+◌, ◌-◌, ◌^◌, ◌<◌, ◌≤◌, Bool, true, false, List, map, [], ◌∷◌, ◌++◌, length, get_or, take, drop, length-drop, drop-drop, Option, None, Some, option_map, unwrap_or, Result, Ok, Err, refl, sym, ap, ap₂, ◌∙◌, subst, append_assoc, append-nil, inl, inr, arith, cond}
+use Rattle.std.proofs.Common.{◌≡◌, ℕ, zero, suc, ◌+◌, ◌-◌, ◌^◌, ◌<◌, ◌≤◌, Bool, true, false, List, map, [], ◌∷◌, ◌++◌, length, get_or, take, drop, length-drop, drop-drop, Option, None, Some, Ok, Err, refl, sym, ap, ap₂, ◌∙◌, subst, append_assoc, append-nil, arith}
 use Rattle.std.specs.Prelude.{◌==◌, if◌then◌else◌, IfOk}
 use Rattle.std.specs.declared.io.Error.{Error}
-use Rattle.std.proofs.lemmas.Bool.{cases_Bool, ne_eqb}
+use Rattle.std.proofs.lemmas.Bool.{ne_eqb}
 use Rattle.std.proofs.lemmas.List.{take-append-drop}
 use Rattle.handlebars_base.specs.Bytes.{Text, newline}
-use Rattle.handlebars_base.specs.Reasons.{out_of_memory}
-use Rattle.handlebars_base.specs.RenderRefusals.{reason_in}
 use Rattle.handlebars_base.specs.declared.error.render_error.RenderError.{RenderError}
 use Rattle.handlebars_scope.specs.Indentation.{lines_of, longer, takes_indent}
 use Rattle.handlebars_scope.specs.LineState.{LineState}
 use Rattle.handlebars_scope.proofs.Indents.{IsUnbroken, read_line, read-more}
-use Rattle.handlebars_meaning.specs.Pieces.{Origin, Piece, indent_pieces, join, pieces_before, pieces_between, pieces_of}
+use Rattle.handlebars_meaning.specs.Pieces.{Origin, Piece, indent_pieces, pieces_before, pieces_between, pieces_of}
 use Rattle.handlebars_meaning.specs.Runs.{Front, none, cut_off, more}
 use Rattle.handlebars_meaning.specs.State.{State}
 use Rattle.handlebars_meaning.specs.Told.{Provenance, provenance, Told, told}

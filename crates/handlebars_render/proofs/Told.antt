@@ -1,8 +1,7 @@
 -- What is told of pieces: texts joined.
-use Rattle.std.proofs.Common.{◌≡◌, ℕ, Bool, true, false, List, [], ◌∷◌, ◌++◌, Some, refl, sym, ap, ◌∙◌, append_assoc, append-nil, Result, Ok, Err, OnOk}
+use Rattle.std.proofs.Common.{◌≡◌, Bool, true, false, List, [], ◌∷◌, ◌++◌, Some, refl, sym, ap, ◌∙◌, append_assoc, append-nil, Ok, Err, arith}
 use Rattle.std.specs.declared.io.Error.{Error}
 use Rattle.handlebars_base.specs.Bytes.{Text}
-use Rattle.handlebars_base.specs.Outputs.{IsWhole}
 use Rattle.handlebars_base.specs.Reasons.{out_of_memory}
 use Rattle.handlebars_base.specs.RenderRefusals.{reason_in}
 use Rattle.handlebars_base.specs.declared.error.render_error.RenderError.{RenderError}
@@ -10,7 +9,7 @@ use Rattle.handlebars_meaning.specs.Runs.{plain_fault}
 use Rattle.handlebars_meaning.specs.Told.{Told}
 use Rattle.handlebars_render.specs.PiecesView.{ahead_told, texts}
 use Rattle.handlebars_render.specs.View.{TellsFault, ahead_text, holding, holding_ahead, told_if}
-use Rattle.handlebars_render.specs.Ways.{IsFault, Way}
+use Rattle.handlebars_render.specs.Ways.{by_pieces}
 use Rattle.handlebars_render.specs.Writes.{TellsPiece, and_told, piece_lost, piece_refused, piece_told}
 use Rattle.handlebars_render.specs.declared.ahead.Ahead as declared
 
@@ -22,12 +21,6 @@ texts-append (x ∷ xs) ys =
 -- the text of what was told, with one more
 pub texts-told : (xs : List Told) (t : Told) → texts (xs ++ t ∷ []) ≡ texts xs ++ t.text
 texts-told xs t = texts-append xs (t ∷ []) ∙ ap (λ (z : Text). texts xs ++ z) (append-nil t.text)
-
--- a piece that is told is held
-pub OnOk-whole : {E : Type 0} (r : Result (Unit {0}) E) (xs ys : List Told) (t : Told) (n : ℕ) → OnOk r (ys ≡ xs ++ t ∷ [])
-    → OnOk r (IsWhole t.text (record { text = texts xs; faults = n }) (record { text = texts ys; faults = n }))
-OnOk-whole (Ok u) xs ys t n is = record { text = ap texts is ∙ texts-told xs t; faults = refl }
-OnOk-whole (Err e) xs ys t n is = tt
 
 -- ---- pieces that are handed over
 
@@ -41,17 +34,17 @@ ahead_texts asks a is = ap (λ b. ahead_text b a) is
 
 module _ (may : Error → Type 0) (t : Told) (at_word : Bool) where
   -- to an output
-  pub piece_out : {O : Type 0} (w : Way O) (a b : O) {u : Unit {0}} → w.asks ≡ true → IsWhole t.text (w.held a) (w.held b)
-      → w.told b ≡ w.told a ++ t ∷ [] → TellsPiece t at_word may (holding w a) (Ok u) (holding w b)
-  piece_out w a b on whole is =
-      piece_told (record { text = whole.text; faults = whole.faults }) (told_more w.asks (w.told a) (w.told b) t on is)
+  pub piece_out : {O : Type 0} (told : O → List Told) (a b : O) {u : Unit {0}} → told b ≡ told a ++ t ∷ []
+      → TellsPiece t at_word may (holding (by_pieces told may) a) (Ok u) (holding (by_pieces told may) b)
+  piece_out told a b is =
+      piece_told (record { text = ap texts is ∙ texts-told (told a) t; faults = refl }) (ap (λ zs. Some zs) is)
 
   -- which refuses it
-  pub piece_fault : {O : Type 0} (w : Way O) (a b : O) {e : RenderError} (cause : Error) → IsFault (w.held a) (w.held b)
-      → w.told b ≡ w.told a → may cause → TellsFault cause (plain_fault at_word) e
-      → TellsPiece t at_word may (holding w a) (Err e) (holding w b)
-  piece_fault w a b cause failed same given tells =
-      piece_refused cause given failed.text (ap (told_if w.asks) same) failed.faults tells
+  pub piece_fault : {O : Type 0} (told : O → List Told) (a b : O) {e : RenderError} (cause : Error) → told b ≡ told a
+      → may cause → TellsFault cause (plain_fault at_word) e
+      → TellsPiece t at_word may (holding (by_pieces told may) a) (Err e) (holding (by_pieces told may) b)
+  piece_fault told a b cause same given tells =
+      piece_refused cause given (ap texts same) (ap (λ zs. Some zs) same) (λ small. absurd (omega (arith, small))) tells
 
   -- to what is rendered ahead
   pub piece_ahead : (asks : Bool) (a b : declared.Ahead) {u : Unit {0}} → asks ≡ true → ahead_told b ≡ ahead_told a ++ t ∷ []

@@ -1,8 +1,7 @@
 -- What the code's values stand for, and what a call of it says of a run.
-use Rattle.std.specs.Prelude.{◌≡◌, ◌≢◌, ℕ, Option, None, Some, ◌+◌, ◌-◌, ◌^◌, ◌<◌, List, [], ◌∷◌, ◌++◌, option_map, unwrap_or, Result, Ok, Err, MatchResult, string_bytes, map, String, Bool, true, false}
+use Rattle.std.specs.Prelude.{◌≡◌, ◌≢◌, ℕ, Option, None, Some, ◌+◌, ◌-◌, ◌^◌, ◌<◌, List, [], ◌∷◌, ◌++◌, option_map, unwrap_or, Result, Ok, Err, MatchResult, string_bytes, map, Bool, true, false}
 use Rattle.std.specs.BTreeMap.{get_by_text}
 use Rattle.std.specs.Cow.{cow_str_bytes}
-use Rattle.std.specs.declared.alloc.Global.{Global}
 use denote.Ref.{Bor}
 use Rattle.std.specs.declared.io.Error.{Error}
 use Rattle.std.specs.declared.io.ErrorKind.{ErrorKind}
@@ -28,7 +27,7 @@ use Rattle.handlebars_base.specs.Outputs.{Held, write_reason}
 use Rattle.handlebars_scope.specs.Indentation.{written_in}
 use Rattle.handlebars_scope.specs.LineState.{LineState, line_behind}
 use Rattle.handlebars_meaning.specs.Pieces.{Piece, join}
-use Rattle.handlebars_meaning.specs.Sites.{Around, around, Site, TreeSite, Whereabouts, whereabouts}
+use Rattle.handlebars_meaning.specs.Sites.{around, Site, TreeSite, Whereabouts, whereabouts}
 use Rattle.handlebars_meaning.specs.Told.{Told, told}
 use Rattle.handlebars_helpers.specs.CallView.{CallView}
 use Rattle.handlebars_helpers.specs.OwnView.{local_of}

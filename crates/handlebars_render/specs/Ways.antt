@@ -1,5 +1,5 @@
 -- How a rendering writes to outputs of a type.
-use Rattle.std.specs.Prelude.{◌≡◌, ℕ, ◌+◌, ◌-◌, ◌^◌, ◌<◌, Bool, true, false, List, []}
+use Rattle.std.specs.Prelude.{◌-◌, ◌^◌, Bool, true, false, List, []}
 use Rattle.std.specs.declared.io.Error.{Error}
 use Rattle.handlebars_base.specs.Outputs.{Held}
 use Rattle.handlebars_meaning.specs.Told.{Told}
@@ -11,11 +11,6 @@ pub record Way (O : Type 0) : Type 1 where
   pub may_give : Error → Type 0
   pub asks : Bool
   pub told : O → List Told
-
--- nothing was written, and one more write has failed
-pub record IsFault (before after : Held) : Type 0 where
-  pub text : after.text ≡ before.text
-  pub faults : before.faults + 1 < 2 ^ 64 → after.faults ≡ before.faults + 1
 
 -- Texts alone are written.
 abbrev pub by_text : {O : Type 0} → (O → Held) → (Error → Type 0) → Way O

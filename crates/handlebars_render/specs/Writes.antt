@@ -8,7 +8,7 @@ use Rattle.handlebars_base.specs.RenderRefusals.{reason_in}
 use Rattle.handlebars_base.specs.declared.error.render_error.RenderError.{RenderError}
 use Rattle.handlebars_scope.specs.LineView.{line_of}
 use Rattle.handlebars_scope.specs.declared.line.LineState.{LineState}
-use Rattle.handlebars_meaning.specs.Pieces.{Origin, Piece, join, put}
+use Rattle.handlebars_meaning.specs.Pieces.{Origin, Piece, put}
 use Rattle.handlebars_meaning.specs.Runs.{Front, plain_fault}
 use Rattle.handlebars_meaning.specs.State.{State}
 use Rattle.handlebars_meaning.specs.Told.{Told}

@@ -19,7 +19,6 @@ use crate::write::write_text;
 use handlebars_template::template::{HelperTemplate, TemplateElement};
 
 /// Renders one element of a tree.
-#[inline(always)]
 #[cycle(render)]
 pub fn render_element<'a, O, T: Telling<O>, P: Registered>(
     element: &'a TemplateElement,

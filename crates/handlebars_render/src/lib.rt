@@ -17,6 +17,7 @@ pub mod entry;
 pub mod environment;
 pub mod evaluate;
 pub mod failure;
+mod fault;
 pub mod heard;
 mod inclusion;
 mod lone;

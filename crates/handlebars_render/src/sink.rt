@@ -6,23 +6,20 @@ ghost use Rattle.handlebars_base.specs.Shown.{escaped_if, shown};
 ghost use Rattle.handlebars_scope.specs.Indentation.{written_in};
 ghost use Rattle.handlebars_scope.specs.LineView.{line_of};
 ghost use Rattle.handlebars_render.specs.PiecesView.{told_seen};
-ghost use Rattle.handlebars_render.specs.View.{IsSame, TellsFault, held_in};
+ghost use Rattle.handlebars_render.specs.View.{IsSame, held_in};
 ghost use Rattle.handlebars_render.specs.Writes.{TellsPiece, WritesText};
-ghost use Rattle.handlebars_meaning.specs.Runs.{plain_fault};
-ghost use Rattle.handlebars_render.specs.Boxed.{answer_of, error_of};
+ghost use Rattle.handlebars_render.specs.Boxed.{answer_of};
 
 use crate::ahead::Ahead;
 use crate::boxed::BoxedError;
+use crate::fault::told_fault;
 use crate::pieces::Origin;
 use crate::telling::Telling;
-use handlebars_base::error::{RenderError, RenderErrorReason};
 use handlebars_base::json::value::{Json, write_value};
-use handlebars_base::output::{Output, output_fault};
+use handlebars_base::output::Output;
 use handlebars_scope::indentation::write_in_line;
 use handlebars_scope::line::LineState;
 use std::alloc::Global;
-use std::io;
-use std::io::ErrorKind;
 use std::marker::PhantomData;
 
 /// Where a rendering writes: to the output, in some way, or to what is rendered ahead for partial blocks. So the cycle of
@@ -34,7 +31,7 @@ pub enum Sink<'o, O, T> {
 }
 
 // What is written here goes straight to one of the two: which of them it is, is asked once for a text, however many
-// writes it takes. Each arm tells by itself what its write came to, in a box: where both met in one `Result` of an error of
+// writes it takes. Each way tells by itself what its write came to, in a box: where they met in one `Result` of an error of
 // the system, each write copied its 96 bytes.
 impl<'o, O, T: Telling<O>> Sink<'o, O, T> {
     /// Writes a text: the word of a boolean helper, whose fault is told by its text, or another one.
@@ -50,10 +47,7 @@ impl<'o, O, T: Telling<O>> Sink<'o, O, T> {
         ensures same { IsSame self.old self.new }
     {
         match self {
-            Sink::Out(out, _) => match T::write(&mut **out, text) {
-                Ok(()) => Ok(()),
-                Err(fault) => Err(told_fault(alloc, at_word, fault)),
-            },
+            Sink::Out(out, _) => T::write(alloc, at_word, &mut **out, text),
             Sink::Ahead(ahead) => match ahead.text.write(text) {
                 Ok(()) => Ok(()),
                 Err(fault) => Err(told_fault(alloc, at_word, fault)),
@@ -75,10 +69,7 @@ impl<'o, O, T: Telling<O>> Sink<'o, O, T> {
         ensures same { IsSame self.old self.new }
     {
         match self {
-            Sink::Out(out, _) => match T::write_value(&mut **out, value, entities) {
-                Ok(()) => Ok(()),
-                Err(fault) => Err(told_fault(alloc, false, fault)),
-            },
+            Sink::Out(out, _) => T::write_value(alloc, &mut **out, value, entities),
             Sink::Ahead(ahead) => match write_value(&mut ahead.text, value, entities) {
                 Ok(()) => Ok(()),
                 Err(fault) => Err(told_fault(alloc, false, fault)),
@@ -102,10 +93,7 @@ impl<'o, O, T: Telling<O>> Sink<'o, O, T> {
     {
         match self {
             Sink::Out(out, _) => {
-                match T::write_in_line(&mut **out, line, text, indent, entities) {
-                    Ok(()) => Ok(()),
-                    Err(fault) => Err(told_fault(alloc, false, fault)),
-                }
+                T::write_in_line(alloc, &mut **out, line, text, indent, entities)
             }
             Sink::Ahead(ahead) => {
                 match write_in_line(line, text, indent, entities, &mut ahead.text) {
@@ -130,41 +118,11 @@ impl<'o, O, T: Telling<O>> Sink<'o, O, T> {
         ensures same { IsSame self.old self.new }
     {
         match self {
-            Sink::Out(out, _) => match T::tell(&mut **out, text, origin) {
-                Ok(()) => Ok(()),
-                Err(fault) => Err(told_fault(alloc, at_word, fault)),
-            },
+            Sink::Out(out, _) => T::tell(alloc, at_word, &mut **out, text, origin),
             Sink::Ahead(ahead) => match ahead.keep(alloc, text, origin) {
                 Ok(()) => Ok(()),
                 Err(_) => Err(BoxedError::OutOfMemory),
             },
         }
-    }
-}
-
-// What a write's fault is told as: as one at a word or not.
-#[cold]
-#[inline(never)]
-fn told_fault(alloc: Global, at_word: bool, fault: io::Error) -> BoxedError
-    ensures { TellsFault fault (plain_fault at_word) (error_of result) }
-{
-    if at_word {
-        BoxedError::new(alloc, word_fault(alloc, fault))
-    } else {
-        BoxedError::new(alloc, output_fault(fault))
-    }
-}
-
-// The refusal for a word that couldn't be written: `OutOfMemory` for want of memory, and else `Other`
-// of the fault's text.
-fn word_fault(alloc: Global, fault: io::Error) -> RenderError
-    ensures { TellsFault fault (plain_fault true) result }
-{
-    match fault.kind() {
-        ErrorKind::OutOfMemory => RenderErrorReason::OutOfMemory.into(),
-        _ => match format!(in alloc; "{fault}") {
-            Ok(text) => RenderErrorReason::Other(text).into(),
-            Err(_) => RenderErrorReason::OutOfMemory.into(),
-        },
     }
 }

@@ -1,4 +1,4 @@
-use Rattle.std.proofs.Common.{List, Ok, Err, ◌++◌, arith, false, refl, subst, sym}
+use Rattle.std.proofs.Common.{List, Err, arith, false, subst, sym}
 use Rattle.std.proofs.lemmas.Str.{IsCharBoundary-start}
 use Rattle.handlebars_scope.proofs.Indents.{boundary-cut, line-more, line-none}
 use Rattle.handlebars_meaning.specs.Pieces.{Piece, indent_pieces, of_indent, site_of}
@@ -6,7 +6,7 @@ use Rattle.handlebars_render.specs.Boxed.{answer_of, error_of}
 use Rattle.handlebars_render.specs.View.{held_in}
 use Rattle.handlebars_render.specs.Writes.{WritesAsIs}
 use Rattle.handlebars_render.proofs.Sinks.{same-refl, same-trans}
-use Rattle.handlebars_render.proofs.Tells.{one_piece, pieces-cut, pieces-end, pieces_from, writes-over, writes-piece, writes-then}
+use Rattle.handlebars_render.proofs.Tells.{one_piece, pieces-cut, pieces-end, writes-over, writes-piece, writes-then}
 use Rattle.handlebars_render.proofs.tell.tell_lines.Goals.{then-bytes-at-eq10+in_default+in_default-tell_some, else-bytes-at-eq10}
 use Rattle.handlebars_render.proofs.tell.tell_lines.Goals as goal
 

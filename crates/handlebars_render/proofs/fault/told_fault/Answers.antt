@@ -3,7 +3,7 @@ use Rattle.handlebars_meaning.specs.Runs.{plain_fault}
 use Rattle.handlebars_render.specs.Boxed.{error_of}
 use Rattle.handlebars_render.proofs.Carry.{handed-fault}
 use Rattle.handlebars_render.proofs.Puts.{tells_fault}
-use Rattle.handlebars_render.proofs.sink.told_fault.Goals as goal
+use Rattle.handlebars_render.proofs.fault.told_fault.Goals as goal
 
 pub returns-then-at_word : goal.returns-then-at_word
 returns-then-at_word c = rw c.if-at_word.true
