@@ -1,19 +1,12 @@
 -- Paths that hold the same texts.
 use Rattle.std.proofs.Common.{◌≡◌, ℕ, ◌+◌, ◌-◌, ◌++◌, arith, slice_set, Bool, true, false, ◌&&◌, length, List, [], ◌∷◌, map, take, String, Global, string_bytes, refl, ap, sym, ◌∙◌}
 use Rattle.std.specs.Cmp.Lexicographic.{same_text}
-use Rattle.std.specs.List.{AllZip, starts_with}
+use Rattle.std.specs.List.{starts_with}
 use Rattle.std.specs.String.{string_eq}
 use Rattle.std.proofs.lemmas.List.{length-append, length-map, map-set}
 use Rattle.std.proofs.Math.Seq.{set-append_seam}
 use lib.Pointwise.{pointwise}
 use Rattle.handlebars_base.specs.Bytes.{Text}
-
-pub map-string_bytes-AllZip : (xs ys : List (String Global)) → AllZip (λ x y. string_bytes y ≡ string_bytes x) xs ys
-    → map string_bytes ys ≡ map string_bytes xs
-map-string_bytes-AllZip [] [] same = refl
-map-string_bytes-AllZip [] (y ∷ ys) same = absurd same
-map-string_bytes-AllZip (x ∷ xs) [] same = absurd same
-map-string_bytes-AllZip (x ∷ xs) (y ∷ ys) same = λ i. same.0 i ∷ map-string_bytes-AllZip xs ys same.1 i
 
 both_true : (a b : Bool) → true ≡ (a && b) → (true ≡ a) × (true ≡ b)
 both_true true b is = (refl, is)

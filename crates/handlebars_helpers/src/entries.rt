@@ -156,6 +156,7 @@ impl<B: HelperPart, F: HelperPart, D: DecoratorPart, G: DecoratorPart, X: Escape
         })
     }
 
+    #[inline(always)]
     fn helper(&self, name: &str) -> Option<Callee> {
         match self.helpers.get(name) {
             Some(HelperEntryOf::Built(kind)) => Some(Callee::Built(*kind)),

@@ -98,7 +98,7 @@ fn set_base(alloc: Global, block: &mut BlockContext, base: Base) -> Result<(), A
     ensures { OnOk result (frame_of block.new ≡ frame_at (base_view base.entry) (frame_of block.old)) }
 {
     match base {
-        Base::Path(path) => set_path(block.base_path_mut(), path)?,
+        Base::Path(path) => set_path(alloc, block.base_path_mut(), path)?,
         Base::Value(value) => block.set_base_value(value.clone()?),
     }
     Ok(())
@@ -122,15 +122,26 @@ fn set_turn_base(
 }
 
 // Makes this path of another one.
-fn set_path(to: &mut Vec<String>, path: &Vec<String>) -> Result<(), AllocError>
+fn set_path(alloc: Global, to: &mut Vec<String>, path: &Vec<String>) -> Result<(), AllocError>
     ensures { OnOk result (map string_bytes to.new.items ≡ map string_bytes path.now.items) }
 {
     if to.starts_with(path) {
         to.truncate(path.len());
     } else {
-        *to = path.clone()?;
+        *to = copied(alloc, path)?;
     }
     Ok(())
+}
+
+// A copy of a path, with room for a turn's name behind it.
+fn copied(alloc: Global, path: &Vec<String>) -> Result<Vec<String>, AllocError>
+    ensures { IfOk result (λ copy. map string_bytes copy.items ≡ map string_bytes path.now.items) }
+{
+    let mut copy = Vec::with_capacity(alloc, path.len().saturating_add(1))?;
+    for name in path {
+        copy.push(name.clone()?)?;
+    }
+    Ok(copy)
 }
 
 // Makes this path, and the turn's name behind it, of another one.
@@ -148,7 +159,7 @@ fn set_turn_path(
         None => String::new(alloc),
     };
     write_turn_name(&mut name, turn)?;
-    set_path(to, path)?;
+    set_path(alloc, to, path)?;
     to.push(name)?;
     Ok(())
 }

@@ -60,6 +60,7 @@ pub struct Logging<'r, E, T, L> {
 impl<E: OwnParts, T: Trees, L: Log> Registered for Logging<'_, E, T, L> {
     ghost parts = { λ x. parts_over E.registered E.own (T.trees x.read.now) x.registry.now };
 
+    #[inline(always)]
     fn helper(&self, name: &str) -> Option<Callee> {
         self.registry.entries.helper(name)
     }

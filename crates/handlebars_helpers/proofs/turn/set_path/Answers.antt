@@ -1,5 +1,5 @@
 use Rattle.std.proofs.Common.{sym, ◌∙◌}
-use Rattle.handlebars_helpers.proofs.Names.{map-string_bytes-AllZip, map-string_bytes-take}
+use Rattle.handlebars_helpers.proofs.Names.{map-string_bytes-take}
 use Rattle.handlebars_helpers.proofs.turn.set_path.Goals as goal
 
 pub returns-then-starts_with : goal.returns-then-starts_with
@@ -7,6 +7,3 @@ returns-then-starts_with c = map-string_bytes-take c.args.to.now.items c.args.pa
     c.truncate.new.self.items c.len.result
     (rw (sym c.deref.ensures.value, sym c.deref-2.ensures.value) c.if-starts_with.ensures.value)
     (c.len.ensures ∙ c.args.path.now.ok.0) c.truncate.ensures.items
-
-pub returns-in_ok-to : goal.returns-in_ok-to
-returns-in_ok-to c = map-string_bytes-AllZip c.args.path.now.items c.in_ok-to.field-0.items c.in_ok-to.ensures.cases.0
