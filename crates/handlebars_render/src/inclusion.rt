@@ -82,7 +82,8 @@ fn lent_base<'v, P: Registered>(
     }
 }
 
-// A block with the variables of the nearest one, and nothing else.
+// A block with the variables of the nearest one, and nothing else. Within its caller it would be copied once more.
+#[inline(never)]
 fn plain_block(alloc: Global, rc: &RenderContext) -> Result<BlockContext, AllocError>
     ensures { IfOk result (λ block. frame_of block
         ≡ record empty_frame { variable = nearest_variables (state_of rc.now).blocks }) }
