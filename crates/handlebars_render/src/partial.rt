@@ -97,21 +97,21 @@ pub fn include<O, T: Telling<O>, P: Registered>(
         return render_kept(view, environment, rc, sink);
     }
     let found = rc.shared_partial(view.name())?;
-    let nearer = Environment { ..*environment };
+    let nearer = &*environment;
     match &found {
         Some(tree) => {
             let template = included(&*tree);
-            include_tree(view, &*tree, template, view.template(), &nearer, rc, sink)
+            include_tree(view, &*tree, template, view.template(), nearer, rc, sink)
         }
         None => match environment.parts.template(view.name()) {
             Some(tree) => {
                 let template = included(&*tree);
-                include_tree(view, &*tree, template, view.template(), &nearer, rc, sink)
+                include_tree(view, &*tree, template, view.template(), nearer, rc, sink)
             }
             None => match view.template() {
                 Some(body) => {
                     let template = environment.spot.template;
-                    include_tree(view, &*body, template, None, &nearer, rc, sink)
+                    include_tree(view, &*body, template, None, nearer, rc, sink)
                 }
                 None => Err(no_partial(environment.alloc, view.name())),
             },
