@@ -115,6 +115,7 @@ pub enum Target {
 }
 
 /// What a call by a name calls, a block or not: the helper of the name, else the hook.
+#[inline(always)]
 pub fn helper_for<P: Registered>(
     parts: &P,
     rc: &RenderContext,
