@@ -4,7 +4,7 @@ use Rattle.handlebars_base.specs.Reasons.{Refusal}
 use Rattle.handlebars_base.specs.declared.error.render_error.RenderError.{RenderError}
 use Rattle.handlebars_meaning.specs.State.{Setting, State}
 use Rattle.handlebars_meaning.specs.Steps.{Steps}
-use Rattle.handlebars_render.specs.Boxed.{IsHandedOn}
+use Rattle.handlebars_expand.specs.Boxed.{IsHandedOn}
 use Rattle.handlebars_render.specs.Silent.{Evals}
 use Rattle.handlebars_render.specs.View.{Answered}
 use Rattle.handlebars_render.proofs.Silent.{evals-handed}

@@ -5,10 +5,11 @@ use Rattle.std.specs.declared.io.Error.{Error}
 use Rattle.handlebars_base.specs.declared.error.render_error.RenderError.{RenderError}
 use Rattle.handlebars_meaning.specs.State.{Setting}
 use Rattle.handlebars_meaning.specs.Steps.{Steps}
-use Rattle.handlebars_render.specs.Boxed.{IsHandedOn}
-use Rattle.handlebars_render.specs.View.{Answered, CarriesOut, Holding, state_of}
+use Rattle.handlebars_expand.specs.Boxed.{IsHandedOn}
+use Rattle.handlebars_expand.specs.View.{state_of}
+use Rattle.handlebars_render.specs.View.{Answered, CarriesOut, Holding}
 use Rattle.handlebars_render.proofs.Carry.{at, carries-handed}
-use Rattle.handlebars_render.specs.declared.context.RenderContext.{RenderContext}
+use Rattle.handlebars_expand.specs.declared.context.RenderContext.{RenderContext}
 
 -- the error is handed on, and then the mark is set
 pub carries-failed : (p : Setting) (k : Steps) (may : Error → Type 0) (first mid last : RenderContext)

@@ -21,9 +21,9 @@ use Rattle.handlebars_meaning.specs.State.{Setting, State, helper_for}
 use Rattle.handlebars_meaning.specs.Values.{HasName, HasValue, HasView, as_written, path_value}
 use Rattle.handlebars_render.specs.Next.{Judges, LeavesCall, wanting}
 use Rattle.handlebars_render.specs.Places.{path_alone}
-use Rattle.handlebars_render.specs.View.{RefusesValue}
+use Rattle.handlebars_expand.specs.View.{RefusesValue}
 use Rattle.handlebars_render.proofs.Leaves.{leaves-called, refuses-view}
-use Rattle.handlebars_render.proofs.LoneValues.{reached-none, reached-value}
+use Rattle.handlebars_expand.proofs.LoneValues.{reached-none, reached-value}
 
 data-seen : (found : Found) (d : Data) → present_in found ≡ Some d → data_in found ≡ d
 data-seen (walked e p) d is = cc

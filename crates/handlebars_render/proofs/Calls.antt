@@ -18,7 +18,7 @@ use Rattle.handlebars_meaning.specs.Values.{HasValue}
 use Rattle.handlebars_meaning.specs.Means.{line_in, render_found, render_lone_as}
 use Rattle.handlebars_render.specs.View.{Answered, CarriesOn, Holding, Moment}
 use Rattle.handlebars_render.proofs.Carry.{at, carries_on-value, carries_on-no_value}
-use Rattle.handlebars_render.proofs.Asked.{gives-ask, refuses-ask}
+use Rattle.handlebars_expand.proofs.Asked.{gives-ask, refuses-ask}
 
 -- the line with another mark
 pub entered_as : (s mid : State) (a b : Bool) → b ≡ a → mid ≡ record s { line = line_in a s.line }

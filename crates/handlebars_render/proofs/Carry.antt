@@ -2,7 +2,7 @@
 use Rattle.std.proofs.Common.{◌≡◌, ◌≢◌, ℕ, Bool, true, false, not, List, map, [], ◌∷◌, ◌++◌, ◌+◌, ◌<◌, ◌^◌, Option, None, Some, Result, Ok, Err, refl, sym, ap, ◌∙◌, subst, append_assoc, append-nil, ◌⊎◌, inl, inr}
 use Rattle.std.specs.declared.io.Error.{Error}
 use Rattle.std.specs.Result.{IsErrAnd}
-use Rattle.handlebars_base.specs.Answers.{IsRefusal, refuses}
+use Rattle.handlebars_base.specs.Answers.{IsRefusal}
 use Rattle.handlebars_base.specs.Bytes.{Text}
 use Rattle.handlebars_base.specs.Reasons.{Reason, Spot, Refusal, out_of_memory}
 use Rattle.handlebars_base.specs.RenderRefusals.{reason_in, reason_of, spot_of, cause_of, refusal_of, plain_refusal}
@@ -11,7 +11,6 @@ use Rattle.handlebars_base.specs.declared.error.render_error.RenderError.{Render
 use Rattle.handlebars_meaning.specs.Pieces.{Origin, of_step, of_word, Piece, join, pieces_of, put}
 use Rattle.handlebars_scope.specs.LineState.{LineState}
 use Rattle.handlebars_scope.specs.Scopes.{Frame}
-use Rattle.handlebars_meaning.specs.Asks.{Asks}
 use Rattle.handlebars_meaning.specs.Sites.{Site}
 use Rattle.handlebars_meaning.specs.State.{Setting, State, push_frame, pop_frame}
 use Rattle.handlebars_meaning.specs.Steps.{Task, Steps, Done, Refuse, Write, Get, Set, Do, Prog, return, run, refuse_for, state, become, write, perform, ◌>>=◌, ◌>>◌}
@@ -20,10 +19,12 @@ use Rattle.handlebars_meaning.specs.Writing.{write_text, write_step, write_word}
 use Rattle.handlebars_meaning.specs.CarryOut.{change, in_block}
 use Rattle.handlebars_meaning.specs.Means.{without_escaping, line_out, on_line, todo}
 use Rattle.handlebars_meaning.specs.Runs.{Fault, plain_fault, Outcome, Ended, Refused, Faulted, NoMemory, Stops, Front, none, mark_spot, Runs, done, refused, wrote, got, set, did, did_over, stop, cut}
-use Rattle.handlebars_render.specs.View.{Gains, Holding, Moment, telling, GivesValue, RefusesValue, TellsCause, TellsFault, Answered, Tells, ended, refusal, fault, no_memory, CarriesOut, CarriesOn, goes_on, is_over}
+use Rattle.handlebars_expand.specs.View.{GivesValue, RefusesValue}
+use Rattle.handlebars_render.specs.View.{Gains, Holding, Moment, telling, TellsCause, TellsFault, Answered, Tells, ended, refusal, fault, no_memory, CarriesOut, CarriesOn, goes_on, is_over}
 use Rattle.handlebars_render.specs.Writes.{AreSome, Puts, Writes, all_written, front_written, part_written}
-use Rattle.handlebars_render.specs.Boxed.{IsHandedOn, answer_of, error_of}
-use Rattle.handlebars_render.specs.declared.boxed.BoxedError.{BoxedError}
+use Rattle.handlebars_expand.specs.Boxed.{IsHandedOn, answer_of, error_of}
+use Rattle.handlebars_expand.specs.declared.boxed.BoxedError.{BoxedError}
+use Rattle.handlebars_expand.proofs.Handed.{handed-reason, handed-refusal}
 use Rattle.handlebars_meaning.proofs.Runs.{join-append, Runs-short}
 
 -- want of memory, or another reason
@@ -107,39 +108,12 @@ marked-fault t e d cause f m tells = record {
   where_it_is = λ other. m.spot other ∙ ap (mark_spot t) (tells.where_it_is (λ memory. other (m.memory memory)));
 }
 
-handed-reason : {e d : RenderError} → IsHandedOn e d → reason_in d ≢ out_of_memory → reason_in d ≡ reason_in e
-handed-reason h other = ap reason_of (h.cause other)
-
-pub handed-refusal : (e d : RenderError) → IsHandedOn e d → reason_in d ≢ out_of_memory → refusal_of d ≡ refusal_of e
-handed-refusal e d h other =
-    ap (λ (r : Reason). record { reason = r; spot = spot_of d }) (handed-reason h other)
-    ∙ ap (λ (z : Spot). record { reason = reason_in e; spot = z }) (h.spot other)
-
--- an error is handed on as it is
-pub handed-itself : (e : RenderError) → IsHandedOn e e
-handed-itself e = record { spot = λ _. refl; cause = λ _. refl; memory = λ memory. memory }
-
 pub handed-fault : (e d : RenderError) (cause : Error) (f : Fault) → IsHandedOn e d → TellsFault cause f e → TellsFault cause f d
 handed-fault e d cause f h tells = record {
   why = λ other. cause-as cause f.at_word e d (handed-reason h other) (h.cause other)
       (tells.why (λ memory. other (h.memory memory)));
   where_it_is = λ other. h.spot other ∙ tells.where_it_is (λ memory. other (h.memory memory));
 }
-
-pub refuses-handed : (p : Setting) {A : Type 0} (m : Prog A) {s : State} (e d : RenderError) → IsHandedOn e d
-    → (reason_in e ≢ out_of_memory → RefusesValue p m s (refusal_of e))
-    → reason_in d ≢ out_of_memory → RefusesValue p m s (refusal_of d)
-refuses-handed p m {s = s} e d h is other = subst (λ (r : Refusal). RefusesValue p m s r) (sym (handed-refusal e d h other))
-    (is (λ memory. other (h.memory memory)))
-
--- an answer is refused, and its refusal is handed on
-pub yields-handed : {A : Type 0} (m : Asks A) (e d : RenderError) → IsHandedOn e d
-    → (reason_in e ≢ out_of_memory → m (refuses (refusal_of e))) → reason_in d ≢ out_of_memory → m (refuses (refusal_of d))
-yields-handed m e d h is other = subst (λ (r : Refusal). m (refuses r)) (sym (handed-refusal e d h other))
-    (is (λ memory. other (h.memory memory)))
-
-pub refusal-handed : (r : Refusal) (e d : RenderError) → IsHandedOn e d → IsRefusal r e → IsRefusal r d
-refusal-handed r e d h is other = handed-refusal e d h other ∙ is (λ memory. other (h.memory memory))
 
 not-not : (b : Bool) → not (not b) ≡ b
 not-not true = refl

@@ -23,12 +23,13 @@ use Rattle.handlebars_meaning.specs.Sites.{as_part, Site, TreeSite, body_at}
 use Rattle.handlebars_meaning.specs.State.{KeptBlocks, Setting, State, push_frame, nearest_variables, partial_in}
 use Rattle.handlebars_meaning.specs.Steps.{Whole, Steps, Done, Do, CheckLimit, Get, Set, Prog, return, ask, state, perform, capture, find, check_limit, ◌>>=◌, ◌>>◌}
 use Rattle.handlebars_meaning.specs.Values.{HasView}
-use Rattle.handlebars_render.specs.PiecesView.{ahead_plain, ahead_told, kept_told, plain_text, texts}
-use Rattle.handlebars_render.specs.declared.ahead.Ahead.{Ahead}
-use Rattle.handlebars_render.specs.declared.ahead.Kept.{Kept}
-use Rattle.handlebars_render.specs.View.{Answered, AreKept, CarriesAhead, CarriesOn, CarriesOut, Gains, GivesValue, Holding, Keeps, KeptIn, Moment, RefusesValue, Tells, fault, goes_on, has_kept, has_none, holding_ahead, is_over, keeping, no_memory, refusal, told_if, with_current}
+use Rattle.handlebars_expand.specs.PiecesView.{ahead_plain, ahead_told, kept_told, plain_text, texts}
+use Rattle.handlebars_expand.specs.declared.ahead.Ahead.{Ahead}
+use Rattle.handlebars_expand.specs.declared.ahead.Kept.{Kept}
+use Rattle.handlebars_expand.specs.View.{AreKept, GivesValue, Keeps, KeptIn, RefusesValue, keeping, with_current}
+use Rattle.handlebars_render.specs.View.{Answered, CarriesAhead, CarriesOn, CarriesOut, Gains, Holding, Moment, Tells, fault, goes_on, has_kept, has_none, holding_ahead, is_over, no_memory, refusal, told_if}
 use Rattle.handlebars_render.specs.Writes.{WritesAsIs}
-use Rattle.handlebars_render.proofs.Asked.{gives-ask}
+use Rattle.handlebars_expand.proofs.Asked.{gives-ask}
 use Rattle.handlebars_render.proofs.Carry.{at, ends, gains-none, memory_or, carries-run, carries_on-change, carries_on-changed, carries_on-elsewhere, carries_on-get, carries_on-line, carries_on-no_memory, carries_on-no_value, carries_on-over, carries_on-pieces, carries_on-refuse, carries_on-then, carries_on-value}
 
 -- a state, with what holds within an inclusion

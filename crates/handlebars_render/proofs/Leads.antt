@@ -23,13 +23,13 @@ use Rattle.handlebars_meaning.specs.Questions.{HasChoice, choice_of}
 use Rattle.handlebars_meaning.specs.Sites.{as_part, Site, TreeSite, body_at, inverse_at}
 use Rattle.handlebars_meaning.specs.State.{Setting, State, nearest_variables}
 use Rattle.handlebars_meaning.specs.Steps.{Prog, Steps, ask, ◌>>=◌}
-use Rattle.handlebars_render.specs.Boxed.{answer_of, error_of}
+use Rattle.handlebars_expand.specs.Boxed.{answer_of, error_of}
 use Rattle.handlebars_render.specs.Chosen.{IsDone, part_if, part_view, render_rest}
 use Rattle.handlebars_render.specs.Judgement.{LeadsTo}
 use Rattle.handlebars_render.specs.View.{Answered, CarriesOn, CarriesOut, Holding, Moment, goes_on, is_over}
-use Rattle.handlebars_render.specs.declared.boxed.BoxedError.{BoxedError}
+use Rattle.handlebars_expand.specs.declared.boxed.BoxedError.{BoxedError}
 use Rattle.handlebars_render.specs.declared.chosen.ToRender.{ToRender}
-use Rattle.handlebars_render.proofs.Asked.{gives-ask, refuses-ask}
+use Rattle.handlebars_expand.proofs.Asked.{gives-ask, refuses-ask}
 use Rattle.handlebars_render.proofs.Carry.{at, carries-get, carries-value, carries_on-no_memory, carries_on-no_value, carries_on-value}
 
 -- ---- bodies and inverses, as the code has them

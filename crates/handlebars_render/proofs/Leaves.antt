@@ -23,16 +23,17 @@ use Rattle.handlebars_meaning.specs.Sites.{Site}
 use Rattle.handlebars_meaning.specs.State.{Setting, State, hook, helper_for, helper_named, registered_target}
 use Rattle.handlebars_meaning.specs.Steps.{Steps, Prog, ask, ◌>>=◌, ◌>>◌}
 use Rattle.handlebars_meaning.specs.Values.{HasName, HasValue, HasView}
-use Rattle.handlebars_render.specs.Boxed.{answer_of, error_of}
-use Rattle.handlebars_render.specs.declared.boxed.BoxedError.{BoxedError}
+use Rattle.handlebars_expand.specs.Boxed.{answer_of, error_of}
+use Rattle.handlebars_expand.specs.declared.boxed.BoxedError.{BoxedError}
 use Rattle.handlebars_render.specs.Next.{ComesTo, IsCall, Leaves, LeavesCall, Settles}
-use Rattle.handlebars_render.specs.View.{Answered, CarriesOn, CarriesOut, GivesValue, Holding, Moment, RefusesValue, goes_on, is_over, name_alone, with_line}
+use Rattle.handlebars_expand.specs.View.{GivesValue, RefusesValue, name_alone, with_line}
+use Rattle.handlebars_render.specs.View.{Answered, CarriesOn, CarriesOut, Holding, Moment, goes_on, is_over}
 use Rattle.handlebars_render.specs.declared.next.Next.{Next}
 use Rattle.handlebars_render.specs.declared.next.Next.TheVariants.{Done, Branch, Each, With, Call as Calls, Hook as Hooks}
-use Rattle.handlebars_render.proofs.BoundCalls.{choice-line}
-use Rattle.handlebars_render.proofs.Asked.{gives-ask, refuses-ask, refuses-bind}
+use Rattle.handlebars_expand.proofs.BoundCalls.{choice-line}
+use Rattle.handlebars_expand.proofs.Asked.{gives-ask, refuses-ask, refuses-bind}
 use Rattle.handlebars_render.proofs.Carry.{at, carries-no_value}
-use Rattle.handlebars_render.proofs.LoneValues.{view-alone}
+use Rattle.handlebars_expand.proofs.LoneValues.{view-alone}
 
 -- strict mode's answer for a missing value
 abbrev refused_missing : Param → Answer (Option Target)

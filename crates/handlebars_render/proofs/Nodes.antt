@@ -15,13 +15,8 @@ use Rattle.handlebars_template.specs.Tree.{Binding}
 use Rattle.handlebars_helpers.specs.Turns.{Turn, turn_frame, turn_name}
 use Rattle.handlebars_meaning.specs.State.{nearest_as, outer_frames}
 use Rattle.handlebars_render.specs.Nodes.{IsNodeAt, below}
-use Rattle.handlebars_render.specs.View.{HasOuter, IsKept, state_of, without_partials}
-use Rattle.handlebars_render.specs.declared.context.RenderContext.{RenderContext}
-
--- ---- outside of every block
-
-pub nodes-empty : {ns : List (Option Data)} (fs : List Frame) (d : Data) → ns ≡ [] → NodesLead ns fs d
-nodes-empty fs d is = subst (λ (ns : List (Option Data)). NodesLead ns fs d) (sym is) tt
+use Rattle.handlebars_expand.specs.View.{HasOuter, IsKept, state_of, without_partials}
+use Rattle.handlebars_expand.specs.declared.context.RenderContext.{RenderContext}
 
 -- ---- what stays as it is
 

@@ -33,10 +33,10 @@ use Rattle.handlebars_meaning.specs.Steps.{Prog}
 use Rattle.handlebars_meaning.specs.Values.{HasName, HasValue, HasView, as_written}
 use Rattle.handlebars_render.specs.Next.{LeavesCall, Settles}
 use Rattle.handlebars_render.specs.Places.{AnyView, Chooses, HasBody, IsNextThere, IsPlaceThere, LeavesPlaced, MayInvert, TellsChoice, Told, block_of, path_alone, turns_at}
-use Rattle.handlebars_render.specs.Targets.{target_in}
+use Rattle.handlebars_expand.specs.Targets.{target_in}
 use Rattle.handlebars_render.specs.declared.next.Next.{Next}
 use Rattle.handlebars_render.specs.declared.next.Next.TheVariants.{Done, Branch, Each, With, Call as Calls, Hook as Hooks}
-use Rattle.handlebars_render.specs.declared.registered.Target as declared
+use Rattle.handlebars_expand.specs.declared.registered.Target as declared
 use Rattle.handlebars_render.proofs.Leaves.{leaves-called}
 
 some-same : {A : Type 0} {x y : A} → Some x ≡ Some y → x ≡ y

@@ -21,20 +21,21 @@ use Rattle.handlebars_meaning.specs.State.{State}
 use Rattle.handlebars_meaning.specs.Told.{Told, told}
 use Rattle.handlebars_meaning.specs.Writing.{rendered_if_any}
 use Rattle.handlebars_meaning.proofs.Pieces.{Front-of, join-put}
-use Rattle.handlebars_render.specs.PiecesView.{ahead_plain, ahead_told, kept_told, plain_text}
-use Rattle.handlebars_render.specs.View.{Answered, AreKept, Gains, Holding, TellsFault, ahead_text, held_in, holding_ahead, told_if, telling, word_reason, with_line, written_at}
+use Rattle.handlebars_expand.specs.PiecesView.{ahead_plain, ahead_told, kept_told, plain_text}
+use Rattle.handlebars_expand.specs.View.{AreKept, with_line, written_at}
+use Rattle.handlebars_render.specs.View.{Answered, Gains, Holding, TellsFault, ahead_text, held_in, holding_ahead, told_if, telling, word_reason}
 use Rattle.handlebars_render.specs.Ways.{Way}
 use Rattle.handlebars_render.specs.Writes.{AnsweredLine, AreSome, Puts, PutsText, TellsLine, Writes, WritesAsIs, WritesText, all_written, front_written, part_written, text_cut, text_part, text_written}
-use Rattle.handlebars_render.specs.declared.ahead.Ahead as declared
-use Rattle.handlebars_render.specs.declared.ahead.Kept.{Kept}
+use Rattle.handlebars_expand.specs.declared.ahead.Ahead as declared
+use Rattle.handlebars_expand.specs.declared.ahead.Kept.{Kept}
 use Rattle.handlebars_render.specs.declared.sink.Sink.{Sink}
 use Rattle.handlebars_render.specs.declared.sink.Sink.TheVariants.{Out, Ahead}
 use Rattle.handlebars_scope.specs.Indentation.{written_in}
 use Rattle.handlebars_scope.specs.declared.line.LineState.{LineState as CodeLine}
 use Rattle.handlebars_scope.proofs.Indents.{written_in-none}
 use Rattle.handlebars_scope.proofs.Lines.{line_behind-escaped}
-use Rattle.handlebars_render.specs.Boxed.{answer_of, error_of}
-use Rattle.handlebars_render.specs.declared.boxed.BoxedError.{BoxedError}
+use Rattle.handlebars_expand.specs.Boxed.{answer_of, error_of}
+use Rattle.handlebars_expand.specs.declared.boxed.BoxedError.{BoxedError}
 use Rattle.handlebars_render.proofs.Carry.{at, gains-none, memory_or}
 
 -- a missing value is written as null is

@@ -20,10 +20,10 @@ use Rattle.handlebars_meaning.specs.Sections.{HasSection, HasSectionIf, HasSecti
 use Rattle.handlebars_meaning.specs.Sites.{Site}
 use Rattle.handlebars_meaning.specs.State.{Setting, State, helper_for}
 use Rattle.handlebars_meaning.specs.Values.{HasView, as_written}
-use Rattle.handlebars_render.specs.Boxed.{answer_of, error_of}
+use Rattle.handlebars_expand.specs.Boxed.{answer_of, error_of}
 use Rattle.handlebars_render.specs.Next.{IsCall, Settles}
 use Rattle.handlebars_render.specs.Sections.{HasSectionAt, SettlesAs}
-use Rattle.handlebars_render.specs.declared.boxed.BoxedError.{BoxedError}
+use Rattle.handlebars_expand.specs.declared.boxed.BoxedError.{BoxedError}
 use Rattle.handlebars_render.specs.declared.next.Next.{Next}
 use Rattle.handlebars_render.proofs.Leaves.{leaves-called_as, refuses-called, settles-call}
 

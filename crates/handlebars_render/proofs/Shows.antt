@@ -17,12 +17,12 @@ use Rattle.handlebars_meaning.specs.State.{Setting, State}
 use Rattle.handlebars_meaning.specs.Steps.{ask}
 use Rattle.handlebars_meaning.specs.Told.{escaped_value, provenance, raw_value}
 use Rattle.handlebars_meaning.specs.Writing.{rendered_if_any, write_rendered, write_text, write_value}
-use Rattle.handlebars_render.specs.Boxed.{IsHandedOn}
+use Rattle.handlebars_expand.specs.Boxed.{IsHandedOn}
 use Rattle.handlebars_render.specs.Shows.{entities_by, value_origin}
 use Rattle.handlebars_render.specs.Tells.{value_kind}
 use Rattle.handlebars_render.specs.View.{Answered, CarriesOn, Holding, Moment}
 use Rattle.handlebars_render.specs.Writes.{AnsweredLine, Puts, TellsLine}
-use Rattle.handlebars_render.proofs.Asked.{gives-ask, refuses-ask}
+use Rattle.handlebars_expand.proofs.Asked.{gives-ask, refuses-ask}
 use Rattle.handlebars_render.proofs.Carry.{at, carries_on-get, carries_on-handed, carries_on-no_value, carries_on-puts, carries_on-value}
 
 Some≢None : {A : Type 0} {x : A} → Some x ≡ None → ⊥

@@ -18,12 +18,13 @@ use Rattle.handlebars_meaning.specs.State.{Setting, State, with_nearest, with_pa
 use Rattle.handlebars_meaning.specs.Steps.{One, Steps, Done, Do, Prog, ask, return, state, ◌>>=◌, ◌>>◌}
 use Rattle.handlebars_meaning.specs.Values.{HasView}
 use Rattle.std.specs.Result.{IsErrAnd}
-use Rattle.handlebars_render.specs.Boxed.{IsHandedOn, answer_of, error_of}
-use Rattle.handlebars_render.specs.declared.boxed.BoxedError.{BoxedError}
+use Rattle.handlebars_expand.specs.Boxed.{IsHandedOn, answer_of, error_of}
+use Rattle.handlebars_expand.specs.declared.boxed.BoxedError.{BoxedError}
 use Rattle.handlebars_render.specs.Silent.{Does, Evals, decorate_as, decorate_tag}
 use Rattle.handlebars_render.specs.View.{Answered, CarriesOn, Holding, goes_on, is_over}
-use Rattle.handlebars_render.proofs.Asked.{refuses-ask, refuses-bind}
-use Rattle.handlebars_render.proofs.Carry.{at, carries-no_value, handed-refusal, refuses-handed}
+use Rattle.handlebars_expand.proofs.Asked.{refuses-ask, refuses-bind}
+use Rattle.handlebars_expand.proofs.Handed.{handed-refusal, refuses-handed}
+use Rattle.handlebars_render.proofs.Carry.{at, carries-no_value}
 
 module _ (p : Setting) where
   -- ---- what is asked first

@@ -13,10 +13,10 @@ use Rattle.handlebars_meaning.specs.Pieces.{Origin, Piece, indent_pieces, pieces
 use Rattle.handlebars_meaning.specs.Runs.{Front, none, cut_off, more}
 use Rattle.handlebars_meaning.specs.State.{State}
 use Rattle.handlebars_meaning.specs.Told.{Provenance, provenance, Told, told}
-use Rattle.handlebars_render.specs.PiecesView.{told_by}
+use Rattle.handlebars_expand.specs.PiecesView.{told_by}
 use Rattle.handlebars_render.specs.View.{Answered, Gains, Holding, Moment, telling}
 use Rattle.handlebars_render.specs.Writes.{AreSome, TellsPiece, Writes, WritesAsIs, all_written, and_told, front_written, part_written, piece_lost, piece_refused, piece_told}
-use Rattle.handlebars_render.specs.declared.ahead.KeptPiece.{KeptPiece}
+use Rattle.handlebars_expand.specs.declared.ahead.KeptPiece.{KeptPiece}
 use Rattle.handlebars_render.proofs.Carry.{at, gains-append, gains-none}
 
 -- ---- the lines of a text

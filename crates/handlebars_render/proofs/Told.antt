@@ -7,11 +7,11 @@ use Rattle.handlebars_base.specs.RenderRefusals.{reason_in}
 use Rattle.handlebars_base.specs.declared.error.render_error.RenderError.{RenderError}
 use Rattle.handlebars_meaning.specs.Runs.{plain_fault}
 use Rattle.handlebars_meaning.specs.Told.{Told}
-use Rattle.handlebars_render.specs.PiecesView.{ahead_told, texts}
+use Rattle.handlebars_expand.specs.PiecesView.{ahead_told, texts}
 use Rattle.handlebars_render.specs.View.{TellsFault, ahead_text, holding, holding_ahead, told_if}
 use Rattle.handlebars_render.specs.Ways.{by_pieces}
 use Rattle.handlebars_render.specs.Writes.{TellsPiece, and_told, piece_lost, piece_refused, piece_told}
-use Rattle.handlebars_render.specs.declared.ahead.Ahead as declared
+use Rattle.handlebars_expand.specs.declared.ahead.Ahead as declared
 
 pub texts-append : (xs ys : List Told) → texts (xs ++ ys) ≡ texts xs ++ texts ys
 texts-append [] ys = refl

@@ -19,10 +19,11 @@ use Rattle.handlebars_helpers.specs.Turns.{StandsBelow, Turn, turn_name, turn_fr
 use Rattle.handlebars_meaning.specs.CarryOut.{render_branch, take_turn, take_turns}
 use Rattle.handlebars_meaning.specs.State.{Setting, State, pop_frame, nearest_as, with_nearest}
 use Rattle.handlebars_meaning.specs.Steps.{Steps, ◌>>◌}
-use Rattle.handlebars_render.specs.Boxed.{answer_of, error_of}
-use Rattle.handlebars_render.specs.declared.boxed.BoxedError.{BoxedError}
-use Rattle.handlebars_render.specs.declared.context.RenderContext.{RenderContext}
-use Rattle.handlebars_render.specs.View.{Answered, CarriesOn, CarriesOut, Holding, IsKept, Moment, NearestBelow, goes_on, is_over, state_of, without_partials}
+use Rattle.handlebars_expand.specs.Boxed.{answer_of, error_of}
+use Rattle.handlebars_expand.specs.declared.boxed.BoxedError.{BoxedError}
+use Rattle.handlebars_expand.specs.declared.context.RenderContext.{RenderContext}
+use Rattle.handlebars_expand.specs.View.{IsKept, NearestBelow, state_of, without_partials}
+use Rattle.handlebars_render.specs.View.{Answered, CarriesOn, CarriesOut, Holding, Moment, goes_on, is_over}
 use Rattle.handlebars_render.proofs.Carry.{at, carries_on-changed, carries_on-out_of_memory}
 
 -- ---- the names that a tag binds

@@ -12,7 +12,7 @@ use Rattle.handlebars_helpers.specs.View.{path_view, turns_left}
 use Rattle.handlebars_meaning.specs.CarryOut.{in_block, render_body, render_branch, take_steps, take_turns}
 use Rattle.handlebars_meaning.specs.Sites.{Site, inverse_at}
 use Rattle.handlebars_meaning.specs.Steps.{Prog, return}
-use Rattle.handlebars_render.specs.declared.boxed.BoxedError.{BoxedError}
+use Rattle.handlebars_expand.specs.declared.boxed.BoxedError.{BoxedError}
 use Rattle.handlebars_render.specs.declared.chosen.ToRender.{ToRender}
 use Rattle.handlebars_render.specs.declared.chosen.ToRender.TheVariants.{Nothing, Body as TheBody, Inverse, BodyIn, BodyInTurns, Steps}
 

@@ -4,27 +4,18 @@ use Rattle.std.specs.declared.io.Error.{Error}
 use denote.MutBor.{MutBor}
 use denote.Triple.Both.{Both}
 use Rattle.handlebars_base.specs.declared.error.render_error.RenderError.{RenderError}
-use Rattle.handlebars_meaning.specs.State.{Parts, Setting, State}
+use Rattle.handlebars_meaning.specs.State.{Parts, Setting}
 use Rattle.handlebars_meaning.specs.Steps.{Steps, Prog}
-use Rattle.handlebars_render.specs.Boxed.{answer_of}
-use Rattle.handlebars_render.specs.View.{Answered, CarriesOn, CarriesOut, Holding, IsKept, IsSame, Keeps, KeptIn, Moment, held_in, moment, setting_in, state_with, within}
+use Rattle.handlebars_expand.specs.Boxed.{answer_of}
+use Rattle.handlebars_expand.specs.View.{IsKept, Keeps, KeptIn, setting_in, within}
+use Rattle.handlebars_render.specs.View.{Answered, CarriesOn, CarriesOut, Holding, IsSame, Moment, held_in, moment}
 use Rattle.handlebars_render.specs.Ways.{Way}
-use Rattle.handlebars_render.specs.declared.boxed.BoxedError.{BoxedError}
-use Rattle.handlebars_render.specs.declared.context.RenderContext.{RenderContext}
-use Rattle.handlebars_render.specs.declared.environment.Environment as declared
+use Rattle.handlebars_expand.specs.declared.boxed.BoxedError.{BoxedError}
+use Rattle.handlebars_expand.specs.declared.context.RenderContext.{RenderContext}
+use Rattle.handlebars_expand.specs.declared.environment.Environment as declared
 use Rattle.handlebars_render.specs.declared.sink.Sink.{Sink}
 
 -- ---- what holds whatever the pieces are that are kept
-
--- Said of the setting of a run, and of the state of a context.
-abbrev pub InState : {P : Type 0} → (P → Parts) → declared.Environment P → RenderContext → (Setting → State → Type 0) → Type 0
-InState parts x rc says = (kept : KeptIn (within x)) → says (setting_in parts x) (state_with kept rc)
-
--- Said of the setting, and of the states before a call and behind it.
-abbrev pub Between : {P : Type 0} → (P → Parts) → declared.Environment P → Both (MutBor RenderContext) (MutBor RenderContext)
-    → (Setting → State → State → Type 0) → Type 0
-Between parts x rc says =
-    (kept : KeptIn (within x)) → says (setting_in parts x) (state_with kept rc.entry.now) (state_with kept rc.exit.now)
 
 -- Said of the moment before a call, and of what the output holds behind it.
 abbrev pub AtMoment : {P O T : Type 0} → Way O → declared.Environment P → RenderContext

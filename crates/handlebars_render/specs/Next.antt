@@ -23,12 +23,13 @@ use Rattle.handlebars_meaning.specs.Runs.{Outcome, Runs}
 use Rattle.handlebars_meaning.specs.State.{Setting, State}
 use Rattle.handlebars_meaning.specs.Steps.{Steps, Prog}
 use Rattle.handlebars_meaning.specs.Values.{HasValue}
-use Rattle.handlebars_render.specs.View.{Moment, CarriesOn, GivesValue, Holding, RefusesValue, called_view, with_line}
-use Rattle.handlebars_render.specs.Bound.{GoesTo, callee_in}
+use Rattle.handlebars_expand.specs.View.{GivesValue, RefusesValue, called_view, with_line}
+use Rattle.handlebars_render.specs.View.{Moment, CarriesOn, Holding}
+use Rattle.handlebars_expand.specs.Bound.{GoesTo, callee_in}
 use Rattle.handlebars_render.specs.Places.{IsThere, block_of, turns_at}
 use Rattle.handlebars_render.specs.declared.next.Next.{Next}
 use Rattle.handlebars_render.specs.declared.next.Next.TheVariants.{Done, Branch, Each, With, Call as Calls, Hook as Hooks}
-use Rattle.handlebars_render.specs.declared.bound.BoundCall.{BoundCall}
+use Rattle.handlebars_expand.specs.declared.bound.BoundCall.{BoundCall}
 
 -- The helper of a call is asked what it chooses, and that is carried out, in the bracket of a call or without it.
 abbrev pub render_next : Site → Bool → Call → Bool → Target → CallView → Prog (Unit {0})

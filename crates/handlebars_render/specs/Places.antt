@@ -21,10 +21,10 @@ use Rattle.handlebars_helpers.specs.Turns.{turns_of}
 use Rattle.handlebars_meaning.specs.CarryOut.{view_with_bodies}
 use Rattle.handlebars_meaning.specs.State.{Setting, State}
 use Rattle.handlebars_meaning.specs.Values.{HasValue, as_written}
-use Rattle.handlebars_render.specs.Targets.{target_in}
+use Rattle.handlebars_expand.specs.Targets.{target_in}
 use Rattle.handlebars_render.specs.declared.next.Next.{Next}
 use Rattle.handlebars_render.specs.declared.next.Next.TheVariants.{Done, Branch, Each, With, Call as Calls, Hook as Hooks}
-use Rattle.handlebars_render.specs.declared.registered.Target as declared
+use Rattle.handlebars_expand.specs.declared.registered.Target as declared
 
 -- a path as the only parameter, without pairs
 abbrev pub path_alone : Reference → Args

@@ -10,7 +10,8 @@ use Rattle.handlebars_meaning.specs.Questions.{decorator_of, deeds_of}
 use Rattle.handlebars_meaning.specs.Runs.{Ended, Refused, Runs}
 use Rattle.handlebars_meaning.specs.State.{Setting, State}
 use Rattle.handlebars_meaning.specs.Steps.{Steps, Prog, ask, state, ◌>>=◌}
-use Rattle.handlebars_render.specs.View.{Answered, RefusesValue}
+use Rattle.handlebars_expand.specs.View.{RefusesValue}
+use Rattle.handlebars_render.specs.View.{Answered}
 
 -- From this state the program comes to the next one, or is refused, with nothing written.
 abbrev pub Does : Setting → Prog (Unit {0}) → State → Answered → State → Type 0

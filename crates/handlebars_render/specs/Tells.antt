@@ -2,8 +2,8 @@
 use Rattle.std.specs.Prelude.{Bool, true, false, List, Option}
 use Rattle.handlebars_base.specs.Bytes.{Text}
 use Rattle.handlebars_meaning.specs.Told.{Kind, escaped_value, raw_value, Provenance}
-use Rattle.handlebars_render.specs.View.{spot_in}
-use Rattle.handlebars_render.specs.declared.environment.Environment as declared
+use Rattle.handlebars_expand.specs.View.{spot_in}
+use Rattle.handlebars_expand.specs.declared.environment.Environment as declared
 
 -- of this kind and path, from where the element stands
 abbrev pub provenance_in : {P : Type 0} → declared.Environment P → Kind → Option (List Text) → Provenance

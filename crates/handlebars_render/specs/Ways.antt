@@ -3,7 +3,7 @@ use Rattle.std.specs.Prelude.{◌-◌, ◌^◌, Bool, true, false, List, []}
 use Rattle.std.specs.declared.io.Error.{Error}
 use Rattle.handlebars_base.specs.Outputs.{Held}
 use Rattle.handlebars_meaning.specs.Told.{Told}
-use Rattle.handlebars_render.specs.PiecesView.{texts}
+use Rattle.handlebars_expand.specs.PiecesView.{texts}
 
 -- what an output holds, the errors that it may give, whether it is told of pieces, and what it was told
 pub record Way (O : Type 0) : Type 1 where

@@ -12,7 +12,8 @@ use Rattle.handlebars_meaning.specs.Pieces.{Origin, Piece, put}
 use Rattle.handlebars_meaning.specs.Runs.{Front, plain_fault}
 use Rattle.handlebars_meaning.specs.State.{State}
 use Rattle.handlebars_meaning.specs.Told.{Told}
-use Rattle.handlebars_render.specs.View.{Answered, Gains, Holding, Moment, TellsFault, state_behind, with_line, written_at}
+use Rattle.handlebars_expand.specs.View.{state_behind, with_line, written_at}
+use Rattle.handlebars_render.specs.View.{Answered, Gains, Holding, Moment, TellsFault}
 
 -- ---- texts, of which no piece is told
 

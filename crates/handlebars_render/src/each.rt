@@ -19,17 +19,18 @@ ghost use Rattle.handlebars_helpers.specs.View.{path_view, turn_view, turns_left
 ghost use Rattle.handlebars_meaning.specs.CarryOut.{in_block, render_body, render_branch, take_turns, view_with_bodies};
 ghost use Rattle.handlebars_render.specs.Judgement.{Carries, CarriesWith, Stays};
 ghost use Rattle.handlebars_render.specs.Nodes.{IsNodeAt, below};
-ghost use Rattle.handlebars_render.specs.View.{HasNodes, HasOuter, IsSame, IsUnlent, Keeps, KeptIn, Stands, within};
+ghost use Rattle.handlebars_expand.specs.View.{HasNodes, HasOuter, IsUnlent, Keeps, KeptIn, Stands, within};
+ghost use Rattle.handlebars_render.specs.View.{IsSame};
 
 use crate::block::render_part;
-use crate::boxed::BoxedError;
-use crate::context::RenderContext;
-use crate::environment::Environment;
-use crate::pieces::Spot;
-use crate::registered::Registered;
 use crate::sink::Sink;
 use crate::telling::Telling;
 use handlebars_base::json::value::Json;
+use handlebars_expand::boxed::BoxedError;
+use handlebars_expand::context::RenderContext;
+use handlebars_expand::environment::Environment;
+use handlebars_expand::pieces::Spot;
+use handlebars_expand::registered::Registered;
 use handlebars_helpers::each_turns::Turns;
 use handlebars_helpers::turn::Turn;
 use handlebars_scope::block::BlockContext;

@@ -4,18 +4,18 @@ ghost use Rattle.handlebars_template.specs.TreeView.{element_view, call_view};
 ghost use Rattle.handlebars_meaning.specs.Sites.{Site};
 ghost use Rattle.handlebars_meaning.specs.Means.{render_element, render_expression, without_escaping};
 ghost use Rattle.handlebars_render.specs.Judgement.{Carries, Stays};
-ghost use Rattle.handlebars_render.specs.View.{HasNodes, Stands};
+ghost use Rattle.handlebars_expand.specs.View.{HasNodes, Stands};
 
 use crate::block::render_tag;
-use crate::boxed::BoxedError;
-use crate::context::RenderContext;
 use crate::decorator::render_decorator;
-use crate::environment::Environment;
 use crate::partial::render_partial;
-use crate::registered::Registered;
 use crate::sink::Sink;
 use crate::telling::Telling;
 use crate::write::write_text;
+use handlebars_expand::boxed::BoxedError;
+use handlebars_expand::context::RenderContext;
+use handlebars_expand::environment::Environment;
+use handlebars_expand::registered::Registered;
 use handlebars_template::template::{HelperTemplate, TemplateElement};
 
 /// Renders one element of a tree.

@@ -5,17 +5,17 @@ ghost use Rattle.handlebars_template.specs.TreeView.{element_view, tree_view};
 ghost use Rattle.handlebars_meaning.specs.Evaluation.{decorator_alone, eval_tree, renamed};
 ghost use Rattle.handlebars_meaning.specs.Means.{render_element};
 ghost use Rattle.handlebars_meaning.specs.Sites.{Site};
-ghost use Rattle.handlebars_render.specs.Boxed.{answer_of};
+ghost use Rattle.handlebars_expand.specs.Boxed.{answer_of};
 ghost use Rattle.handlebars_render.specs.Silent.{Does, Evals};
-ghost use Rattle.handlebars_render.specs.Judgement.{Between};
-ghost use Rattle.handlebars_render.specs.View.{IsKept, HasNodes};
+ghost use Rattle.handlebars_expand.specs.Judgement.{Between};
+ghost use Rattle.handlebars_expand.specs.View.{IsKept, HasNodes};
 
-use crate::boxed::BoxedError;
-use crate::context::RenderContext;
 use crate::decorator::render_decorator;
-use crate::environment::Environment;
-use crate::registered::Registered;
 use crate::tree::placed;
+use handlebars_expand::boxed::BoxedError;
+use handlebars_expand::context::RenderContext;
+use handlebars_expand::environment::Environment;
+use handlebars_expand::registered::Registered;
 use handlebars_template::template::{Template, TemplateElement};
 
 /// Carries out the decorators of a tree, in order. The name of the tree takes the place of the one in an error.

@@ -2,12 +2,12 @@
 
 ghost use Rattle.std.specs.Prelude.{true};
 ghost use Rattle.handlebars_meaning.specs.Runs.{plain_fault};
-ghost use Rattle.handlebars_render.specs.Boxed.{error_of};
+ghost use Rattle.handlebars_expand.specs.Boxed.{error_of};
 ghost use Rattle.handlebars_render.specs.View.{TellsFault};
 
-use crate::boxed::BoxedError;
 use handlebars_base::error::{RenderError, RenderErrorReason};
 use handlebars_base::output::output_fault;
+use handlebars_expand::boxed::BoxedError;
 use std::alloc::Global;
 use std::io;
 use std::io::ErrorKind;

@@ -7,17 +7,17 @@ ghost use Rattle.handlebars_helpers.specs.OwnView.{step_of};
 ghost use Rattle.handlebars_meaning.specs.CarryOut.{view_with_bodies, take_step, take_steps};
 ghost use Rattle.handlebars_meaning.specs.Sites.{Site};
 ghost use Rattle.handlebars_render.specs.Judgement.{Carries, Stays};
-ghost use Rattle.handlebars_render.specs.View.{HasNodes, Stands};
+ghost use Rattle.handlebars_expand.specs.View.{HasNodes, Stands};
 
 use crate::block::render_part;
-use crate::boxed::BoxedError;
-use crate::context::RenderContext;
 use crate::each::render_in;
-use crate::environment::Environment;
-use crate::registered::Registered;
 use crate::sink::Sink;
 use crate::telling::Telling;
 use crate::write::write_step;
+use handlebars_expand::boxed::BoxedError;
+use handlebars_expand::context::RenderContext;
+use handlebars_expand::environment::Environment;
+use handlebars_expand::registered::Registered;
 use handlebars_helpers::own::HelperStep;
 use handlebars_template::template::HelperTemplate;
 

@@ -8,18 +8,18 @@ ghost use Rattle.handlebars_meaning.specs.Sites.{TreeSite, element_in};
 ghost use Rattle.handlebars_meaning.specs.Means.{render_element};
 ghost use Rattle.handlebars_meaning.specs.Runs.{placed_at, named_as};
 ghost use Rattle.handlebars_meaning.specs.Steps.{Whole, perform};
-ghost use Rattle.handlebars_render.specs.Boxed.{error_of};
+ghost use Rattle.handlebars_expand.specs.Boxed.{error_of};
 ghost use Rattle.handlebars_render.specs.Judgement.{Carries, Stays};
-ghost use Rattle.handlebars_render.specs.View.{HasNodes, StandsIn};
+ghost use Rattle.handlebars_expand.specs.View.{HasNodes, StandsIn};
 
-use crate::boxed::BoxedError;
-use crate::context::RenderContext;
 use crate::element::render_element;
-use crate::environment::Environment;
-use crate::pieces::Spot;
-use crate::registered::Registered;
 use crate::sink::Sink;
 use crate::telling::Telling;
+use handlebars_expand::boxed::BoxedError;
+use handlebars_expand::context::RenderContext;
+use handlebars_expand::environment::Environment;
+use handlebars_expand::pieces::Spot;
+use handlebars_expand::registered::Registered;
 use handlebars_template::template::{Template, TemplateElement, TemplateMapping};
 use std::alloc::Global;
 

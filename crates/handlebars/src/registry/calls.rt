@@ -20,7 +20,7 @@ ghost use Rattle.handlebars_meaning.specs.Answer.{RefusesWith, HasOneAnswer, Ans
 ghost use Rattle.handlebars_meaning.specs.Answer.{AnswerStays, NamedAnswerStays};
 ghost use Rattle.handlebars_markup.specs.TwoRuns.{HasFixedMarkup};
 ghost use Rattle.handlebars_meaning.specs.State.{first_state};
-ghost use Rattle.handlebars_render.specs.View.{state_of, root_of, has_failed};
+ghost use Rattle.handlebars_expand.specs.View.{state_of, root_of, has_failed};
 ghost use Rattle.handlebars.specs.Calls.{BeginsWith, Converts, ConvertsOr, Writes};
 ghost use Rattle.handlebars.specs.Calls.{WritesConverted, WritesReading, WritesSource};
 ghost use Rattle.handlebars.specs.Dev.{AsksFor, HasRead, RefusesReading, RefusesSource, stored_under};

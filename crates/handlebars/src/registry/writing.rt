@@ -5,7 +5,7 @@ ghost use Rattle.handlebars_template.specs.TreeView.{tree_view};
 ghost use Rattle.handlebars_scope.specs.Contexts.{data_of};
 ghost use Rattle.handlebars_meaning.specs.Means.{render_tree};
 ghost use Rattle.handlebars_base.specs.declared.error.render_error.RenderError as declared;
-ghost use Rattle.handlebars_render.specs.Boxed.{error_of};
+ghost use Rattle.handlebars_expand.specs.Boxed.{error_of};
 ghost use Rattle.handlebars_render.specs.View.{CarriesOut, first_moment};
 ghost use Rattle.handlebars.specs.Calls.{BeginsWith, Writes, answer_by};
 ghost use Rattle.handlebars.specs.Files.{tree_in};

@@ -8,7 +8,7 @@ ghost use Rattle.handlebars_template.specs.TreeView.{tree_view, element_view};
 ghost use Rattle.handlebars_meaning.specs.Evaluation.{eval_alone, eval_tree, renamed};
 ghost use Rattle.handlebars_meaning.specs.Steps.{Steps};
 ghost use Rattle.handlebars_render.specs.Silent.{Evals};
-ghost use Rattle.handlebars_render.specs.View.{state_of, root_of, has_failed, without_partials};
+ghost use Rattle.handlebars_expand.specs.View.{state_of, root_of, has_failed, without_partials};
 ghost use Rattle.handlebars.specs.View.{setting_of};
 
 use crate::registry::RegistryOf;

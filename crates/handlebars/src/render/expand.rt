@@ -8,7 +8,7 @@ ghost use Rattle.handlebars_base.specs.RenderRefusals.{refusal_of, plain_refusal
 ghost use Rattle.handlebars_template.specs.Tree.{Param};
 ghost use Rattle.handlebars_template.specs.TreeView.{param_view};
 ghost use Rattle.handlebars_meaning.specs.Values.{HasName, HasWrittenValue};
-ghost use Rattle.handlebars_render.specs.View.{state_of, root_of, has_failed, Yields};
+ghost use Rattle.handlebars_expand.specs.View.{state_of, root_of, has_failed, Yields};
 ghost use Rattle.handlebars.specs.View.{setting_of};
 
 use crate::registry::RegistryOf;

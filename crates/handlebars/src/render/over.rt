@@ -6,8 +6,10 @@ ghost use Rattle.handlebars_base.specs.RenderRefusals.{refusal_of, plain_refusal
 ghost use Rattle.handlebars_template.specs.TreeView.{tree_view};
 ghost use Rattle.handlebars_scope.specs.Contexts.{data_of};
 ghost use Rattle.handlebars_meaning.specs.Means.{render_tree};
-ghost use Rattle.handlebars_render.specs.View.{state_of, root_of, has_failed, first_moment};
-ghost use Rattle.handlebars_render.specs.View.{without_partials, CarriesOut, GivesString, RefusesString};
+ghost use Rattle.handlebars_expand.specs.View.{state_of, root_of, has_failed};
+ghost use Rattle.handlebars_render.specs.View.{first_moment};
+ghost use Rattle.handlebars_expand.specs.View.{without_partials};
+ghost use Rattle.handlebars_render.specs.View.{CarriesOut, GivesString, RefusesString};
 ghost use Rattle.handlebars.specs.Over.{setting_with};
 
 use crate::registry::RegistryOf;

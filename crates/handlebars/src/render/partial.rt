@@ -7,8 +7,9 @@ ghost use Rattle.handlebars_helpers.specs.DecoratorsView.{tag_view};
 ghost use Rattle.handlebars_meaning.specs.Including.{include};
 ghost use Rattle.handlebars_meaning.specs.Sites.{Site};
 ghost use Rattle.handlebars_meaning.specs.Steps.{run};
-ghost use Rattle.handlebars_render.specs.View.{state_of, root_of, has_failed};
-ghost use Rattle.handlebars_render.specs.View.{first_moment, without_partials, CarriesOut};
+ghost use Rattle.handlebars_expand.specs.View.{state_of, root_of, has_failed};
+ghost use Rattle.handlebars_expand.specs.View.{without_partials};
+ghost use Rattle.handlebars_render.specs.View.{first_moment, CarriesOut};
 ghost use Rattle.handlebars.specs.View.{setting_of};
 
 use crate::registry::RegistryOf;

@@ -23,23 +23,23 @@ use Rattle.handlebars_scope.specs.WayView.{names_in}
 use Rattle.handlebars_meaning.specs.CarryOut.{in_block, render_body, render_with, view_with_bodies}
 use Rattle.handlebars_meaning.specs.Means.{line_in, render_chosen, render_decorator}
 use Rattle.handlebars_meaning.specs.Runs.{named_as, placed_at}
-use Rattle.handlebars_render.specs.Boxed.{answer_of, error_of}
-use Rattle.handlebars_render.specs.declared.boxed.BoxedError.TheVariants.{OutOfMemory}
-use Rattle.handlebars_render.specs.declared.bound.BoundCall.{BoundCall}
+use Rattle.handlebars_expand.specs.Boxed.{answer_of, error_of}
+use Rattle.handlebars_expand.specs.declared.boxed.BoxedError.TheVariants.{OutOfMemory}
+use Rattle.handlebars_expand.specs.declared.bound.BoundCall.{BoundCall}
 use Rattle.handlebars_render.specs.Chosen.{part_view, render_rest}
 use Rattle.handlebars_render.specs.Places.{block_of, turns_at}
 use Rattle.handlebars_base.specs.Bytes.{Text}
-use Rattle.handlebars_render.specs.View.{with_current, called_view, keeping, lending, setting_in, spot_in, state_of, state_with, within}
+use Rattle.handlebars_expand.specs.View.{with_current, called_view, keeping, lending, setting_in, spot_in, state_of, state_with, within}
 use Rattle.handlebars_render.proofs.Calls.{entered_as}
-use Rattle.handlebars_render.proofs.BoundCalls.{choice-entered, chooses-entered, chooses-parts}
+use Rattle.handlebars_expand.proofs.BoundCalls.{choice-entered, chooses-entered, chooses-parts}
 use Rattle.handlebars_render.proofs.Leads.{body-seen, carries_on-choice, carries_on-leads, carries_on-part, inverse-seen, leads-block, part_site}
 use Rattle.handlebars_render.proofs.Leaves.{carries_on-leaves}
 use Rattle.handlebars_render.proofs.Carry.{carries-run, carries_on-done, carries_on-handed, carries_on-in_block, carries_on-line, carries_on-no_memory, carries_on-no_value, carries_on-out_of_memory, carries_on-puts, carries_on-step, carries_on-task, carries_on-task_over, carries_on-without_escaping, restored}
 use Rattle.handlebars_meaning.specs.State.{State, push_frame, pop_frame, nearest_variables}
 use Rattle.handlebars_render.proofs.Elements.{left_starts, left_goes, left_over, left_ends, whole_with}
-use Rattle.handlebars_render.proofs.Kept.{kept-refl, kept-trans, outer-kept, outer-trans}
+use Rattle.handlebars_expand.proofs.Kept.{kept-refl, kept-trans, outer-kept, outer-trans}
 use Rattle.handlebars_render.proofs.Stands.{site-for, site-for-whereabouts, stands-around, stands-element, stands-included, stands-part, stands-turn, stands-unasked}
-use Rattle.handlebars_render.proofs.Lent.{in-turn, kept-any, nearest_variables-lend, pop_frame-lent, named-lent, nearest-lent, one_more, partial_in-lend}
+use Rattle.handlebars_expand.proofs.Lent.{in-turn, kept-any, nearest_variables-lend, pop_frame-lent, named-lent, nearest-lent, one_more, partial_in-lend}
 use Rattle.handlebars_render.proofs.Nodes.{nodes-kept, nodes-pushed, nodes-turned}
 use Rattle.handlebars_render.proofs.Lists.{get_or-seen, below-seen, over-seen, place_there, looked_up, placed_marks}
 use Rattle.handlebars_render.proofs.Silent.{carries_on-does}
@@ -55,7 +55,7 @@ use Rattle.handlebars_meaning.specs.Means.{include_tag, line_at, on_line}
 use Rattle.handlebars_meaning.specs.Questions.{view_of}
 use Rattle.handlebars_meaning.specs.Sites.{included_at}
 use Rattle.handlebars_meaning.specs.Steps.{Whole, ask, perform}
-use Rattle.handlebars_render.proofs.Asked.{refuses-ask}
+use Rattle.handlebars_expand.proofs.Asked.{refuses-ask}
 use Rattle.handlebars_render.proofs.Includes.{begins-empty, begin_inclusion-so, kept-more, kept-no, own-none, own-some, placed, carries_ahead-kept, carries_ahead-over, includes-kept, includes-local, includes-own, includes-registered, includes-self, inclusion-ahead, inclusion-ahead_over, inclusion-no_room, inclusion-no_value, inclusion-plain, kept-none, kept-own, kept-written, tag-includes, under-same}
 use Rattle.handlebars_render.proofs.+render.Goals.{partial::include_tree-in-Some+in-Ok-render_ahead, partial::include_tree-in-Some+in-Err-render_ahead, partial::include_tree-in-None}
 use Rattle.handlebars_render.proofs.+render.Goals as goal

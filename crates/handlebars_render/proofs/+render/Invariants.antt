@@ -7,7 +7,8 @@ use Rattle.handlebars_helpers.specs.CallView.{CallView}
 use Rattle.handlebars_helpers.specs.OwnView.{step_of}
 use Rattle.handlebars_helpers.specs.View.{path_view, turns_left}
 use Rattle.handlebars_meaning.specs.CarryOut.{view_with_bodies}
-use Rattle.handlebars_render.specs.View.{setting_in, state_of, moment, held_in, within, HasOuter, IsKept, IsSame, IsUnlent, Keeps, KeptIn, NearestBelow, Stands, StandsIn}
+use Rattle.handlebars_expand.specs.View.{setting_in, state_of, within, HasOuter, IsKept, IsUnlent, Keeps, KeptIn, NearestBelow, Stands, StandsIn}
+use Rattle.handlebars_render.specs.View.{moment, held_in, IsSame}
 use Rattle.handlebars_render.proofs.Elements.{Left}
 use Rattle.handlebars_render.proofs.OwnSteps.{StepsLeft}
 use Rattle.handlebars_render.proofs.Turns.{TurnsLeft}

@@ -4,9 +4,9 @@ use Rattle.handlebars_base.specs.Answers.{answer_map}
 use Rattle.handlebars_base.specs.PathView.{reference_of}
 use Rattle.handlebars_base.specs.Scoped.{present_in}
 use Rattle.handlebars_scope.specs.Contexts.{data_of}
-use Rattle.handlebars_render.specs.Boxed.{error_of}
-use Rattle.handlebars_render.specs.View.{setting_in, state_of, state_with}
-use Rattle.handlebars_render.proofs.Lent.{read-lent}
+use Rattle.handlebars_expand.specs.Boxed.{error_of}
+use Rattle.handlebars_expand.specs.View.{setting_in, state_of, state_with}
+use Rattle.handlebars_expand.proofs.Lent.{read-lent}
 use Rattle.handlebars_render.proofs.Branches.{judges-nothing, judges-refused, judges-value}
 use Rattle.handlebars_render.proofs.branch.condition.Goals as goal
 

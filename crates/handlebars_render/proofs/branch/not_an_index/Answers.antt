@@ -1,7 +1,7 @@
 use Rattle.handlebars_base.specs.Reasons.{invalid_json_index}
 use Rattle.handlebars_base.specs.RenderRefusals.{plain_refusal}
-use Rattle.handlebars_render.specs.Boxed.{error_of}
-use Rattle.handlebars_render.proofs.Carry.{refusal-handed}
+use Rattle.handlebars_expand.specs.Boxed.{error_of}
+use Rattle.handlebars_expand.proofs.Handed.{refusal-handed}
 use Rattle.handlebars_render.proofs.branch.not_an_index.Goals as goal
 
 pub returns : goal.returns

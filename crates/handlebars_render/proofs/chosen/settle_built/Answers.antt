@@ -5,9 +5,9 @@ use Rattle.handlebars_scope.specs.ScopeView.{frame_of}
 use Rattle.handlebars_helpers.specs.Turns.{with_block}
 use Rattle.handlebars_helpers.specs.View.{base_view}
 use Rattle.handlebars_meaning.specs.CarryOut.{view_with_bodies}
-use Rattle.handlebars_render.specs.View.{state_of, state_with}
+use Rattle.handlebars_expand.specs.View.{state_of, state_with}
 use Rattle.handlebars_render.proofs.Leads.{leads-block, leads-done, leads-no_memory}
-use Rattle.handlebars_render.proofs.Lent.{nearest_variables-lend}
+use Rattle.handlebars_expand.proofs.Lent.{nearest_variables-lend}
 use Rattle.handlebars_render.proofs.chosen.settle_built.Goals as goal
 
 pub returns-in_err-block_at-in-Block-clause-leads : goal.returns-in_err-block_at-in-Block-clause-leads

@@ -1,7 +1,7 @@
 use Rattle.std.proofs.Common.{sym}
 use Rattle.handlebars_template.specs.TreeView.{call_view}
 use Rattle.handlebars_meaning.specs.CarryOut.{view_with_bodies}
-use Rattle.handlebars_render.specs.Boxed.{answer_of, error_of}
+use Rattle.handlebars_expand.specs.Boxed.{answer_of, error_of}
 use Rattle.handlebars_render.specs.Chosen.{render_rest}
 use Rattle.handlebars_render.proofs.Carry.{carries_on-handed}
 use Rattle.handlebars_render.proofs.Leads.{leads-choice, leads-refused}

@@ -4,9 +4,9 @@ use Rattle.handlebars_base.specs.RenderRefusals.{plain_refusal}
 use Rattle.handlebars_helpers.specs.Decoration.{kind_inline, kind_own}
 use Rattle.handlebars_helpers.specs.DecoratorsView.{tag_view}
 use Rattle.handlebars_meaning.specs.Questions.{decorator_of, decorator_or_refusal}
-use Rattle.handlebars_render.specs.Boxed.{answer_of, error_of}
+use Rattle.handlebars_expand.specs.Boxed.{answer_of, error_of}
 use Rattle.handlebars_render.specs.Silent.{decorate_by}
-use Rattle.handlebars_render.specs.View.{setting_in, state_with}
+use Rattle.handlebars_expand.specs.View.{setting_in, state_with}
 use Rattle.handlebars_render.proofs.Silent.{does-asked, does-refused_as}
 use Rattle.handlebars_render.proofs.decorator.decorate.Goals as goal
 

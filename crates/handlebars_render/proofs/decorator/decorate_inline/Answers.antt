@@ -3,8 +3,8 @@ use Rattle.handlebars_helpers.specs.Decoration.{kind_inline, sets_partial}
 use Rattle.handlebars_helpers.specs.DecoratorsView.{tag_view}
 use Rattle.handlebars_meaning.specs.Means.{do_deeds, set_partial}
 use Rattle.handlebars_meaning.specs.Questions.{deeds_of}
-use Rattle.handlebars_render.specs.Boxed.{answer_of, error_of}
-use Rattle.handlebars_render.specs.View.{setting_in, state_with}
+use Rattle.handlebars_expand.specs.Boxed.{answer_of, error_of}
+use Rattle.handlebars_expand.specs.View.{setting_in, state_with}
 use Rattle.handlebars_render.proofs.Silent.{does-alone, does-asked, does-refused}
 use Rattle.handlebars_render.proofs.decorator.decorate_inline.Goals as goal
 

@@ -3,8 +3,8 @@ use Rattle.handlebars_helpers.specs.Decoration.{kind_own}
 use Rattle.handlebars_helpers.specs.DecoratorsView.{deed_of, tag_view}
 use Rattle.handlebars_meaning.specs.Means.{do_deeds}
 use Rattle.handlebars_meaning.specs.Questions.{deeds_of}
-use Rattle.handlebars_render.specs.Boxed.{answer_of, error_of}
-use Rattle.handlebars_render.specs.View.{setting_in, state_with}
+use Rattle.handlebars_expand.specs.Boxed.{answer_of, error_of}
+use Rattle.handlebars_expand.specs.View.{setting_in, state_with}
 use Rattle.handlebars_render.proofs.Silent.{does-asked, does-refused}
 use Rattle.handlebars_render.proofs.decorator.decorate_own.Goals as goal
 

@@ -2,7 +2,7 @@ use Rattle.std.proofs.Common.{ap, string_bytes, sym}
 use Rattle.handlebars_helpers.specs.OwnView.{local_of}
 use Rattle.handlebars_scope.specs.Contexts.{data_of}
 use Rattle.handlebars_meaning.specs.State.{with_data, with_local, without_local}
-use Rattle.handlebars_render.specs.View.{keeping, setting_in}
+use Rattle.handlebars_expand.specs.View.{keeping, setting_in}
 use Rattle.handlebars_render.proofs.Silent.{does-change}
 use Rattle.handlebars_render.proofs.decorator.do_deed.Goals as goal
 

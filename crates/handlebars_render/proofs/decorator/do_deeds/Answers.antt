@@ -1,8 +1,8 @@
 use Rattle.std.proofs.Common.{◌∙◌, sym, ap, map, length, arith}
 use Rattle.handlebars_helpers.specs.DecoratorsView.{deed_of, tag_view}
-use Rattle.handlebars_render.specs.Boxed.{error_of}
-use Rattle.handlebars_render.specs.View.{setting_in}
-use Rattle.handlebars_render.proofs.Kept.{kept-refl, kept-trans}
+use Rattle.handlebars_expand.specs.Boxed.{error_of}
+use Rattle.handlebars_expand.specs.View.{setting_in}
+use Rattle.handlebars_expand.proofs.Kept.{kept-refl, kept-trans}
 use Rattle.handlebars_render.proofs.OwnSteps.{nothing_left}
 use Rattle.handlebars_render.proofs.Silent.{deeds-end, deeds-go, deeds-over}
 use Rattle.handlebars_render.proofs.decorator.do_deeds.Goals as goal

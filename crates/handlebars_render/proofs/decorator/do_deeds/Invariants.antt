@@ -1,7 +1,7 @@
 use Rattle.std.proofs.Common.{◌≡◌, length, map}
 use Rattle.std.specs.Vec.Iter.{into_iter_items, into_iter_len}
 use Rattle.handlebars_helpers.specs.DecoratorsView.{deed_of, tag_view}
-use Rattle.handlebars_render.specs.View.{IsKept, setting_in, state_with, KeptIn, within}
+use Rattle.handlebars_expand.specs.View.{IsKept, setting_in, state_with, KeptIn, within}
 use Rattle.handlebars_render.proofs.Silent.{DeedsLeft}
 use Rattle.handlebars_render.proofs.decorator.do_deeds.Given as goal
 

@@ -1,11 +1,11 @@
 use Rattle.handlebars_template.specs.Tree.{decorator_args, decorator_name}
 use Rattle.handlebars_template.specs.TreeView.{decorator_view}
 use Rattle.handlebars_meaning.specs.Questions.{view_of}
-use Rattle.handlebars_render.specs.Boxed.{answer_of}
+use Rattle.handlebars_expand.specs.Boxed.{answer_of}
 use Rattle.handlebars_render.specs.Silent.{decorate_tag}
-use Rattle.handlebars_render.specs.View.{called_view, setting_in, state_with}
+use Rattle.handlebars_expand.specs.View.{called_view, setting_in, state_with}
 use Rattle.handlebars_render.proofs.Silent.{does-handed, does-no_memory, does-refused, does-tag}
-use Rattle.handlebars_render.proofs.Carry.{handed-itself}
+use Rattle.handlebars_expand.proofs.Handed.{handed-itself}
 use Rattle.handlebars_render.proofs.decorator.render_decorator.Goals as goal
 
 pub returns-clause-does : goal.returns-clause-does

@@ -1,10 +1,10 @@
 use Rattle.std.proofs.Common.{ap, ◌∙◌}
 use Rattle.handlebars_template.specs.TreeView.{tree_view}
 use Rattle.handlebars_helpers.specs.DecoratorsView.{tag_view}
-use Rattle.handlebars_render.specs.Boxed.{error_of}
-use Rattle.handlebars_render.specs.View.{keeping, setting_in, state_of}
-use Rattle.handlebars_render.proofs.Carry.{refusal-handed}
-use Rattle.handlebars_render.proofs.Lent.{partial-lent}
+use Rattle.handlebars_expand.specs.Boxed.{error_of}
+use Rattle.handlebars_expand.specs.View.{keeping, setting_in, state_of}
+use Rattle.handlebars_expand.proofs.Handed.{refusal-handed}
+use Rattle.handlebars_expand.proofs.Lent.{partial-lent}
 use Rattle.handlebars_render.proofs.Silent.{does-partial, refuses-partial}
 use Rattle.handlebars_render.proofs.decorator.set_partial.Goals as goal
 

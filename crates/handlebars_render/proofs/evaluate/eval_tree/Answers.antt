@@ -7,10 +7,10 @@ use Rattle.handlebars_template.specs.declared.template.tree.TemplateMapping.{Tem
 use Rattle.handlebars_template.proofs.Trees.{tree_view-out}
 use Rattle.handlebars_meaning.specs.Runs.{placed_at}
 use Rattle.handlebars_meaning.specs.Sites.{first_tree, element_in}
-use Rattle.handlebars_render.specs.Boxed.{error_of}
-use Rattle.handlebars_render.specs.View.{state_with}
+use Rattle.handlebars_expand.specs.Boxed.{error_of}
+use Rattle.handlebars_expand.specs.View.{state_with}
 use Rattle.handlebars_render.proofs.Evaluated.{alone-elements, alone_view, silent-ends, silent-goes, silent-refused}
-use Rattle.handlebars_render.proofs.Kept.{kept-trans}
+use Rattle.handlebars_expand.proofs.Kept.{kept-trans}
 use Rattle.handlebars_render.proofs.Lists.{below-seen, get_or-seen, looked_up, over-seen, place_there, placed_marks}
 use Rattle.handlebars_render.proofs.Nodes.{nodes-kept}
 use Rattle.handlebars_render.proofs.evaluate.eval_tree.Goals as goal

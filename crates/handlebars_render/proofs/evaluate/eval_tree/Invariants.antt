@@ -1,6 +1,6 @@
 use Rattle.std.proofs.Common.{map}
 use Rattle.handlebars_template.specs.TreeView.{place_of}
-use Rattle.handlebars_render.specs.View.{IsKept, setting_in, state_with, KeptIn, within}
+use Rattle.handlebars_expand.specs.View.{IsKept, setting_in, state_with, KeptIn, within}
 use Rattle.handlebars_render.proofs.Evaluated.{SilentLeft, alone_view}
 use Rattle.handlebars_render.proofs.evaluate.eval_tree.Given as goal
 

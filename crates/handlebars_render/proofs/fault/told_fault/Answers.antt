@@ -1,6 +1,6 @@
 use Rattle.std.proofs.Common.{false, true}
 use Rattle.handlebars_meaning.specs.Runs.{plain_fault}
-use Rattle.handlebars_render.specs.Boxed.{error_of}
+use Rattle.handlebars_expand.specs.Boxed.{error_of}
 use Rattle.handlebars_render.proofs.Carry.{handed-fault}
 use Rattle.handlebars_render.proofs.Puts.{tells_fault}
 use Rattle.handlebars_render.proofs.fault.told_fault.Goals as goal

@@ -1,9 +1,9 @@
 use Rattle.handlebars_base.specs.Scoped.{found_of}
 use Rattle.handlebars_template.specs.Tree.{call_name}
 use Rattle.handlebars_template.specs.TreeView.{call_view}
-use Rattle.handlebars_render.specs.Boxed.{error_of}
+use Rattle.handlebars_expand.specs.Boxed.{error_of}
 use Rattle.handlebars_render.proofs.Leaves.{carries_on-refuses, refuses-lone}
-use Rattle.handlebars_render.proofs.LoneValues.{named-inner, unnamed-inner, valued-inner}
+use Rattle.handlebars_expand.proofs.LoneValues.{named-inner, unnamed-inner, valued-inner}
 use Rattle.handlebars_render.proofs.lone.settle_inner.Goals as goal
 
 pub returns-in-Ok-clause-comes : goal.returns-in-Ok-clause-comes

@@ -2,9 +2,9 @@ use Rattle.std.proofs.Common.{ap, false, ◌∙◌, refl, sym}
 use Rattle.handlebars_template.specs.Tree.{call_name, name}
 use Rattle.handlebars_template.specs.TreeView.{call_view, param_view}
 use Rattle.handlebars_template.proofs.Levels.{call_name-view, param_view-Literal, param_view-Name, param_view-Path, param_view-Subexpression}
-use Rattle.handlebars_render.specs.Boxed.{answer_of}
+use Rattle.handlebars_expand.specs.Boxed.{answer_of}
 use Rattle.handlebars_render.proofs.Leaves.{comes_to-settles}
-use Rattle.handlebars_render.proofs.LoneValues.{named-literal, valued-literal}
+use Rattle.handlebars_expand.proofs.LoneValues.{named-literal, valued-literal}
 use Rattle.handlebars_render.proofs.lone.settle_lone.Goals as goal
 
 pub returns-in-Name-clause-comes : goal.returns-in-Name-clause-comes

@@ -9,10 +9,10 @@ use Rattle.handlebars_meaning.specs.CarryOut.{view_with_bodies}
 use Rattle.handlebars_meaning.specs.Means.{render_chosen, render_found}
 use Rattle.handlebars_meaning.specs.Questions.{choice_of}
 use Rattle.handlebars_meaning.specs.Steps.{ask}
-use Rattle.handlebars_render.specs.Boxed.{error_of}
-use Rattle.handlebars_render.specs.Targets.{target_in}
-use Rattle.handlebars_render.specs.View.{called_view, name_alone}
-use Rattle.handlebars_render.proofs.Asked.{refuses-ask, refuses-bind}
+use Rattle.handlebars_expand.specs.Boxed.{error_of}
+use Rattle.handlebars_expand.specs.Targets.{target_in}
+use Rattle.handlebars_expand.specs.View.{called_view, name_alone}
+use Rattle.handlebars_expand.proofs.Asked.{refuses-ask, refuses-bind}
 use Rattle.handlebars_render.proofs.Leaves.{leaves-hook, gives-nothing, refuses-leaves, refuses-missing}
 use Rattle.handlebars_render.proofs.lone.settle_missing.Goals as goal
 

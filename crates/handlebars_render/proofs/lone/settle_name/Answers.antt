@@ -5,11 +5,11 @@ use Rattle.handlebars_template.specs.Tree.{call_name}
 use Rattle.handlebars_template.specs.TreeView.{call_view}
 use Rattle.handlebars_helpers.specs.CallView.{CallView}
 use Rattle.handlebars_meaning.specs.Means.{render_found, render_lone, render_lone_as}
-use Rattle.handlebars_render.specs.Boxed.{answer_of}
-use Rattle.handlebars_render.specs.Targets.{target_in}
-use Rattle.handlebars_render.specs.View.{called_view, name_alone}
+use Rattle.handlebars_expand.specs.Boxed.{answer_of}
+use Rattle.handlebars_expand.specs.Targets.{target_in}
+use Rattle.handlebars_expand.specs.View.{called_view, name_alone}
 use Rattle.handlebars_render.proofs.Leaves.{leaves-missing, leaves-named, leaves-value, settles-call, settles-leaves}
-use Rattle.handlebars_render.proofs.LoneValues.{lacks-name, named-name}
+use Rattle.handlebars_expand.proofs.LoneValues.{lacks-name, named-name}
 use Rattle.handlebars_render.proofs.lone.settle_name.Goals as goal
 
 pub returns-in-Some : goal.returns-in-Some

@@ -12,13 +12,13 @@ use Rattle.handlebars_template.specs.Tree.{call_name}
 use Rattle.handlebars_template.specs.TreeView.{call_view}
 use Rattle.handlebars_helpers.specs.CallView.{CallView}
 use Rattle.handlebars_meaning.specs.State.{helper_named}
-use Rattle.handlebars_render.specs.Boxed.{answer_of, error_of}
-use Rattle.handlebars_render.specs.Targets.{target_in}
-use Rattle.handlebars_render.specs.View.{called_view, name_alone, setting_in, state_of, state_with}
-use Rattle.handlebars_render.proofs.Lent.{read-lent}
+use Rattle.handlebars_expand.specs.Boxed.{answer_of, error_of}
+use Rattle.handlebars_expand.specs.Targets.{target_in}
+use Rattle.handlebars_expand.specs.View.{called_view, name_alone, setting_in, state_of, state_with}
+use Rattle.handlebars_expand.proofs.Lent.{read-lent}
 use Rattle.handlebars_render.proofs.Calls.{value_err, value_lacks}
 use Rattle.handlebars_render.proofs.Leaves.{comes_to-leaves, comes_to-settles, leaves-missing, leaves-named, leaves-value, settles-call}
-use Rattle.handlebars_render.proofs.LoneValues.{named-path, reached-none-as, reached-value}
+use Rattle.handlebars_expand.proofs.LoneValues.{named-path, reached-none-as, reached-value}
 use Rattle.handlebars_render.proofs.lone.settle_path.Goals as goal
 
 pub returns-in-Some-clause-comes : goal.returns-in-Some-clause-comes

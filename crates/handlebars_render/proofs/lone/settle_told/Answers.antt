@@ -8,13 +8,13 @@ use Rattle.handlebars_scope.specs.Contexts.{data_of}
 use Rattle.handlebars_scope.specs.Located.{at_path}
 use Rattle.handlebars_template.specs.Tree.{call_name, path}
 use Rattle.handlebars_template.specs.TreeView.{call_view}
-use Rattle.handlebars_render.specs.Boxed.{answer_of, error_of}
-use Rattle.handlebars_render.specs.View.{setting_in, state_of, state_with}
+use Rattle.handlebars_expand.specs.Boxed.{answer_of, error_of}
+use Rattle.handlebars_expand.specs.View.{setting_in, state_of, state_with}
 use Rattle.handlebars_render.proofs.Calls.{value_err, value_lacks}
 use Rattle.handlebars_render.proofs.Leaves.{comes_to-leaves, comes_to-settles, leaves-missing}
-use Rattle.handlebars_render.proofs.Lent.{read-lent}
-use Rattle.handlebars_render.proofs.Located.{path_in-at_path, present_in-at_path}
-use Rattle.handlebars_render.proofs.LoneValues.{refused-path, valued-path}
+use Rattle.handlebars_expand.proofs.Lent.{read-lent}
+use Rattle.handlebars_expand.proofs.Located.{path_in-at_path, present_in-at_path}
+use Rattle.handlebars_expand.proofs.LoneValues.{refused-path, valued-path}
 use Rattle.handlebars_render.proofs.lone.settle_told.Goals as goal
 
 pub returns-in-Value-clause-comes : goal.returns-in-Value-clause-comes

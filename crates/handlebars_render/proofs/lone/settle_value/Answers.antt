@@ -4,9 +4,9 @@ use Rattle.handlebars_template.specs.TreeView.{call_view}
 use Rattle.handlebars_helpers.specs.CallView.{CallView}
 use Rattle.handlebars_meaning.specs.State.{helper_named}
 use Rattle.handlebars_meaning.specs.Values.{callee_name}
-use Rattle.handlebars_render.specs.Boxed.{answer_of}
-use Rattle.handlebars_render.specs.Targets.{target_in}
-use Rattle.handlebars_render.specs.View.{called_view, name_alone, state_with}
+use Rattle.handlebars_expand.specs.Boxed.{answer_of}
+use Rattle.handlebars_expand.specs.Targets.{target_in}
+use Rattle.handlebars_expand.specs.View.{called_view, name_alone, state_with}
 use Rattle.handlebars_render.proofs.Calls.{value_lacks}
 use Rattle.handlebars_render.proofs.Leaves.{comes_to-leaves, comes_to-no_memory, comes_to-settles, leaves-missing, leaves-named, leaves-value, settles-call}
 use Rattle.handlebars_render.proofs.lone.settle_value.Goals as goal

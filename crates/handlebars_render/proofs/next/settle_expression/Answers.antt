@@ -1,6 +1,6 @@
 use Rattle.std.proofs.Common.{false, refl, sym}
 use Rattle.handlebars_template.specs.TreeView.{call_view}
-use Rattle.handlebars_render.specs.Boxed.{answer_of}
+use Rattle.handlebars_expand.specs.Boxed.{answer_of}
 use Rattle.handlebars_render.proofs.Leaves.{comes_to-leaves, comes_to-settles, leaves-expression, leaves-lone}
 use Rattle.handlebars_render.proofs.next.settle_expression.Goals as goal
 

@@ -2,9 +2,9 @@ use Rattle.std.proofs.Common.{◌∙◌, sym}
 use Rattle.handlebars_base.specs.PathView.{reference_of}
 use Rattle.handlebars_template.specs.Tree.{call_name}
 use Rattle.handlebars_template.specs.TreeView.{call_view}
-use Rattle.handlebars_render.specs.Boxed.{error_of}
+use Rattle.handlebars_expand.specs.Boxed.{error_of}
 use Rattle.handlebars_render.proofs.Branches.{refuses-path, takes-path}
-use Rattle.handlebars_render.proofs.LoneValues.{named-written}
+use Rattle.handlebars_expand.proofs.LoneValues.{named-written}
 use Rattle.handlebars_render.proofs.next.settle_named.Goals as goal
 
 pub returns-in-Ok : goal.returns-in-Ok

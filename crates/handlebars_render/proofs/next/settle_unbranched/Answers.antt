@@ -1,6 +1,6 @@
 use Rattle.handlebars_template.specs.Tree.{call_name}
 use Rattle.handlebars_template.specs.TreeView.{call_view}
-use Rattle.handlebars_render.proofs.LoneValues.{named-written}
+use Rattle.handlebars_expand.proofs.LoneValues.{named-written}
 use Rattle.handlebars_render.proofs.Places.{placed-settles}
 use Rattle.handlebars_render.proofs.next.settle_unbranched.Goals as goal
 

@@ -3,10 +3,10 @@ use Rattle.std.specs.Cow.{cow_str_bytes}
 use Rattle.handlebars_template.specs.TreeView.{call_view}
 use Rattle.handlebars_template.proofs.Levels.{call_params-view, call_pairs-view}
 use Rattle.handlebars_meaning.specs.Asks.{goes_on, is_refused}
-use Rattle.handlebars_render.specs.Boxed.{answer_of}
+use Rattle.handlebars_expand.specs.Boxed.{answer_of}
 use Rattle.handlebars_base.specs.PathAndData.{path_and_data}
-use Rattle.handlebars_render.specs.Targets.{target_in}
-use Rattle.handlebars_render.specs.View.{pairs_seen}
+use Rattle.handlebars_expand.specs.Targets.{target_in}
+use Rattle.handlebars_expand.specs.View.{pairs_seen}
 use Rattle.handlebars_render.proofs.Leaves.{leaves-called, refuses-view, settles-call, settles-handed}
 use Rattle.handlebars_render.proofs.Sections.{settles-unhelped}
 use Rattle.handlebars_render.proofs.next.settle_viewed.Goals as goal

@@ -6,8 +6,8 @@ use Rattle.handlebars_template.specs.TreeView.{call_view}
 use Rattle.handlebars_scope.specs.Contexts.{data_of}
 use Rattle.handlebars_helpers.specs.Choice.{each_choice, kind_each, kind_with, lacks, with_choice}
 use Rattle.handlebars_render.specs.Places.{AnyView, HasBody}
-use Rattle.handlebars_render.specs.View.{setting_in, state_of, state_with}
-use Rattle.handlebars_render.proofs.Lent.{read-lent}
+use Rattle.handlebars_expand.specs.View.{setting_in, state_of, state_with}
+use Rattle.handlebars_expand.proofs.Lent.{read-lent}
 use Rattle.handlebars_render.proofs.Places.{leaves-placed, placed-there, told-value}
 use Rattle.handlebars_render.proofs.place.settle_placed.Goals as goal
 

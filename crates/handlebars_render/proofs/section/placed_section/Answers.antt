@@ -5,8 +5,8 @@ use Rattle.handlebars_template.specs.Tree.{call_inverse}
 use Rattle.handlebars_template.specs.TreeView.{call_view}
 use Rattle.handlebars_scope.specs.Contexts.{data_of}
 use Rattle.handlebars_helpers.specs.Choice.{lacks}
-use Rattle.handlebars_render.specs.View.{setting_in, state_of, state_with}
-use Rattle.handlebars_render.proofs.Lent.{read-lent}
+use Rattle.handlebars_expand.specs.View.{setting_in, state_of, state_with}
+use Rattle.handlebars_expand.proofs.Lent.{read-lent}
 use Rattle.handlebars_render.proofs.PlacedSections.{leaves-section}
 use Rattle.handlebars_render.proofs.Places.{placed-there, told-value}
 use Rattle.handlebars_render.proofs.section.placed_section.Goals as goal

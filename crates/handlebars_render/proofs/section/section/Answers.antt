@@ -5,8 +5,8 @@ use Rattle.handlebars_template.specs.Tree.{literal, subexpression}
 use Rattle.handlebars_template.specs.TreeView.{call_view, param_view, subexpression_view}
 use Rattle.handlebars_template.proofs.Levels.{call_name-view, param_view-Literal, param_view-Name, param_view-Path, param_view-Subexpression}
 use Rattle.handlebars_meaning.specs.Values.{is_literal}
-use Rattle.handlebars_render.specs.Boxed.{answer_of, error_of}
-use Rattle.handlebars_render.specs.View.{called_view}
+use Rattle.handlebars_expand.specs.Boxed.{answer_of, error_of}
+use Rattle.handlebars_expand.specs.View.{called_view}
 use Rattle.handlebars_render.proofs.Sections.{settles-no_path, settles-path}
 use Rattle.handlebars_render.proofs.section.section.Goals as goal
 

@@ -1,6 +1,6 @@
 use Rattle.handlebars_base.specs.PathView.{reference_of}
 use Rattle.handlebars_template.specs.TreeView.{call_view}
-use Rattle.handlebars_render.specs.View.{called_view}
+use Rattle.handlebars_expand.specs.View.{called_view}
 use Rattle.handlebars_render.proofs.PlacedSections.{settles-placed}
 use Rattle.handlebars_render.proofs.section.section_at.Goals as goal
 

@@ -7,9 +7,9 @@ use Rattle.handlebars_template.specs.TreeView.{call_view}
 use Rattle.handlebars_meaning.specs.Asks.{is_refused, only}
 use Rattle.handlebars_meaning.specs.Sections.{section_call}
 use Rattle.handlebars_meaning.specs.Values.{path_value}
-use Rattle.handlebars_render.specs.Boxed.{answer_of, error_of}
+use Rattle.handlebars_expand.specs.Boxed.{answer_of, error_of}
 use Rattle.handlebars_render.specs.Sections.{HasSectionAt}
-use Rattle.handlebars_render.specs.View.{called_view, setting_in, state_with}
+use Rattle.handlebars_expand.specs.View.{called_view, setting_in, state_with}
 use Rattle.handlebars_render.proofs.Sections.{settles-refused, settles-then}
 use Rattle.handlebars_render.proofs.section.section_found.Goals as goal
 

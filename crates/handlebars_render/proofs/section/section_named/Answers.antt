@@ -4,8 +4,8 @@ use Rattle.handlebars_template.specs.Tree.{call_name, name}
 use Rattle.handlebars_template.specs.TreeView.{call_view}
 use Rattle.handlebars_meaning.specs.Sections.{HasSection, reads_not}
 use Rattle.handlebars_meaning.specs.Values.{is_literal}
-use Rattle.handlebars_render.specs.Boxed.{answer_of, error_of}
-use Rattle.handlebars_render.specs.View.{called_view, setting_in, state_with}
+use Rattle.handlebars_expand.specs.Boxed.{answer_of, error_of}
+use Rattle.handlebars_expand.specs.View.{called_view, setting_in, state_with}
 use Rattle.handlebars_render.proofs.Sections.{settles-name, settles-no_memory, settles-no_path}
 use Rattle.handlebars_render.proofs.section.section_named.Goals as goal
 

@@ -5,10 +5,10 @@ use Rattle.handlebars_template.specs.Tree.{as_name, call_name}
 use Rattle.handlebars_template.specs.TreeView.{call_view}
 use Rattle.handlebars_template.proofs.Levels.{call_name-view}
 use Rattle.handlebars_helpers.specs.View.{kind_of}
-use Rattle.handlebars_render.specs.Boxed.{answer_of}
-use Rattle.handlebars_render.specs.View.{called_view}
+use Rattle.handlebars_expand.specs.Boxed.{answer_of}
+use Rattle.handlebars_expand.specs.View.{called_view}
 use Rattle.handlebars_render.proofs.Sections.{settles-over}
-use Rattle.handlebars_render.proofs.Values.{written-as}
+use Rattle.handlebars_expand.proofs.Values.{written-as}
 use Rattle.handlebars_render.proofs.section.section_over.Goals as goal
 
 pub returns : goal.returns

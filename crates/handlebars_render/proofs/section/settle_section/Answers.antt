@@ -1,6 +1,6 @@
 use Rattle.handlebars_template.specs.TreeView.{call_view}
-use Rattle.handlebars_render.specs.Boxed.{answer_of, error_of}
-use Rattle.handlebars_render.specs.View.{called_view}
+use Rattle.handlebars_expand.specs.Boxed.{answer_of, error_of}
+use Rattle.handlebars_expand.specs.View.{called_view}
 use Rattle.handlebars_render.proofs.Sections.{settles-section, settles-without}
 use Rattle.handlebars_render.proofs.section.settle_section.Goals as goal
 

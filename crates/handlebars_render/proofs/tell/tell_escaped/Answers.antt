@@ -1,5 +1,5 @@
 use Rattle.handlebars_base.specs.Shown.{escaped_if}
-use Rattle.handlebars_render.specs.View.{state_with}
+use Rattle.handlebars_expand.specs.View.{state_with}
 use Rattle.handlebars_render.proofs.Puts.{puts-no_memory}
 use Rattle.handlebars_render.proofs.tell.tell_escaped.Goals as goal
 

@@ -1,7 +1,7 @@
 use Rattle.std.proofs.Common.{◌≡◌, List, drop, false, map}
 use Rattle.handlebars_meaning.specs.Pieces.{Piece}
 use Rattle.handlebars_meaning.specs.Told.{told}
-use Rattle.handlebars_render.specs.PiecesView.{told_by}
+use Rattle.handlebars_expand.specs.PiecesView.{told_by}
 use Rattle.handlebars_render.specs.View.{Answered, Holding, IsSame, held_in}
 use Rattle.handlebars_render.specs.Writes.{WritesAsIs}
 use Rattle.handlebars_render.proofs.tell.tell_kept.Given as goal

@@ -2,7 +2,7 @@ use Rattle.std.proofs.Common.{List, Err, arith, false, subst, sym}
 use Rattle.std.proofs.lemmas.Str.{IsCharBoundary-start}
 use Rattle.handlebars_scope.proofs.Indents.{boundary-cut, line-more, line-none}
 use Rattle.handlebars_meaning.specs.Pieces.{Piece, indent_pieces, of_indent, site_of}
-use Rattle.handlebars_render.specs.Boxed.{answer_of, error_of}
+use Rattle.handlebars_expand.specs.Boxed.{answer_of, error_of}
 use Rattle.handlebars_render.specs.View.{held_in}
 use Rattle.handlebars_render.specs.Writes.{WritesAsIs}
 use Rattle.handlebars_render.proofs.Sinks.{same-refl, same-trans}

@@ -4,7 +4,7 @@ use Rattle.handlebars_scope.specs.Indentation.{lines_of}
 use Rattle.handlebars_scope.proofs.Indents.{IsUnbroken, read_line}
 use Rattle.handlebars_meaning.specs.Pieces.{Origin, indent_pieces, of_indent, pieces_between, site_of}
 use Rattle.handlebars_meaning.specs.Told.{provenance}
-use Rattle.handlebars_render.specs.PiecesView.{origin_seen}
+use Rattle.handlebars_expand.specs.PiecesView.{origin_seen}
 use Rattle.handlebars_render.specs.View.{Answered, Holding, IsSame, held_in}
 use Rattle.handlebars_render.specs.Writes.{WritesAsIs}
 use Rattle.handlebars_render.proofs.Tells.{pieces_from}

@@ -2,7 +2,7 @@ use Rattle.std.proofs.Common.{List, Ok, false, sym, ◌∙◌, subst}
 use Rattle.handlebars_base.specs.Bytes.{Text}
 use Rattle.handlebars_scope.proofs.Indents.{is-empty}
 use Rattle.handlebars_meaning.specs.Pieces.{Piece, pieces_of}
-use Rattle.handlebars_render.specs.Boxed.{answer_of}
+use Rattle.handlebars_expand.specs.Boxed.{answer_of}
 use Rattle.handlebars_render.specs.View.{held_in}
 use Rattle.handlebars_render.specs.Writes.{WritesAsIs}
 use Rattle.handlebars_render.proofs.Tells.{not-empty, pieces-some, writes-nil, writes-piece}

@@ -2,8 +2,9 @@ use Rattle.std.proofs.Common.{Ok, Err, ap, ◌∙◌, false, subst}
 use Rattle.handlebars_scope.specs.LineState.{LineState, line_behind}
 use Rattle.handlebars_scope.specs.LineView.{line_of}
 use Rattle.handlebars_meaning.specs.Pieces.{pieces_put}
-use Rattle.handlebars_render.specs.Boxed.{error_of}
-use Rattle.handlebars_render.specs.View.{held_in, state_behind, state_with, with_line}
+use Rattle.handlebars_expand.specs.Boxed.{error_of}
+use Rattle.handlebars_expand.specs.View.{state_behind, state_with, with_line}
+use Rattle.handlebars_render.specs.View.{held_in}
 use Rattle.handlebars_render.specs.Writes.{WritesAsIs}
 use Rattle.handlebars_render.proofs.Tells.{writes-to}
 use Rattle.handlebars_render.proofs.tell.tell_text.Goals as goal

@@ -2,7 +2,7 @@ use Rattle.std.proofs.Common.{List, Ok, Err, ◌++◌, ◌∙◌, false, subst, 
 use Rattle.handlebars_scope.specs.Indentation.{lines_of}
 use Rattle.handlebars_scope.specs.LineView.{line_of}
 use Rattle.handlebars_meaning.specs.Pieces.{Piece, indent_pieces, of_indent, pieces_before, pieces_between, site_of}
-use Rattle.handlebars_render.specs.Boxed.{answer_of, error_of}
+use Rattle.handlebars_expand.specs.Boxed.{answer_of, error_of}
 use Rattle.handlebars_render.specs.View.{held_in}
 use Rattle.handlebars_render.specs.Writes.{WritesAsIs}
 use Rattle.handlebars_render.proofs.Tells.{before-none, before-takes, writes-over, writes-then}

@@ -3,7 +3,7 @@ use Rattle.serde_json.specs.View.{view}
 use Rattle.handlebars_base.specs.Shown.{escaped_if}
 use Rattle.handlebars_meaning.specs.Writing.{rendered_if_any}
 use Rattle.handlebars_scope.specs.LineView.{line_of}
-use Rattle.handlebars_render.specs.View.{state_with}
+use Rattle.handlebars_expand.specs.View.{state_with}
 use Rattle.handlebars_render.proofs.Puts.{escaped_if-empty, puts-no_memory, puts-none}
 use Rattle.handlebars_render.proofs.Sinks.{same-refl}
 use Rattle.handlebars_render.proofs.tell.tell_value.Goals as goal

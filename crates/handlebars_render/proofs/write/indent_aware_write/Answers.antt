@@ -1,5 +1,5 @@
 use Rattle.std.proofs.Common.{refl}
-use Rattle.handlebars_render.specs.View.{state_of}
+use Rattle.handlebars_expand.specs.View.{state_of}
 use Rattle.handlebars_render.proofs.Puts.{plain-at, tells_fault, text_all, text_as, text_fault}
 use Rattle.handlebars_render.proofs.write.indent_aware_write.Goals as goal
 

@@ -3,7 +3,7 @@ use Rattle.std.specs.Prelude.{unwrap_or}
 use Rattle.serde_json.specs.Data.{null}
 use Rattle.serde_json.specs.View.{view}
 use Rattle.handlebars_base.specs.Scoped.{value}
-use Rattle.handlebars_render.specs.View.{keeping}
+use Rattle.handlebars_expand.specs.View.{keeping}
 use Rattle.handlebars_render.proofs.Puts.{rendered-or_null}
 use Rattle.handlebars_render.proofs.write.write_chosen.Goals as goal
 

@@ -1,8 +1,8 @@
 use Rattle.std.proofs.Common.{ap₂, string_bytes, sym, ◌∙◌}
 use Rattle.handlebars_meaning.specs.Pieces.{of_value}
 use Rattle.handlebars_meaning.specs.Told.{escaped_value}
-use Rattle.handlebars_render.specs.Boxed.{answer_of, error_of}
-use Rattle.handlebars_render.specs.View.{state_with}
+use Rattle.handlebars_expand.specs.Boxed.{answer_of, error_of}
+use Rattle.handlebars_expand.specs.View.{state_with}
 use Rattle.handlebars_render.proofs.Puts.{line_puts, none_told}
 use Rattle.handlebars_render.proofs.Shows.{shows_own, shows_refused}
 use Rattle.handlebars_render.proofs.write.write_escaped.Goals as goal

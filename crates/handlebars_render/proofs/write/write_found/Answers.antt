@@ -2,9 +2,9 @@ use Rattle.std.proofs.Common.{option_map, sym, ◌∙◌}
 use Rattle.serde_json.specs.View.{view}
 use Rattle.handlebars_base.specs.Shown.{escaped_if}
 use Rattle.handlebars_meaning.specs.Writing.{rendered_if_any}
-use Rattle.handlebars_render.specs.Boxed.{answer_of}
+use Rattle.handlebars_expand.specs.Boxed.{answer_of}
 use Rattle.handlebars_render.specs.Shows.{value_origin}
-use Rattle.handlebars_render.specs.View.{state_of, state_with}
+use Rattle.handlebars_expand.specs.View.{state_of, state_with}
 use Rattle.handlebars_render.proofs.Puts.{line_puts, none_told}
 use Rattle.handlebars_render.proofs.Shows.{shows_by, value-provenance}
 use Rattle.handlebars_render.proofs.write.write_found.Goals as goal

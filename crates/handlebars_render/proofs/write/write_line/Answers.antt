@@ -1,6 +1,6 @@
 use Rattle.std.proofs.Common.{ap, option_map, ◌∙◌}
 use Rattle.handlebars_scope.specs.LineState.{LineState, line_behind}
-use Rattle.handlebars_render.specs.View.{state_with, with_line}
+use Rattle.handlebars_expand.specs.View.{state_with, with_line}
 use Rattle.handlebars_render.proofs.Puts.{plain-at, text_as}
 use Rattle.handlebars_render.proofs.write.write_line.Goals as goal
 

@@ -1,7 +1,7 @@
 use Rattle.std.proofs.Common.{None, ap, option_map, sym, ◌∙◌}
 use Rattle.handlebars_meaning.specs.Pieces.{of_text}
 use Rattle.handlebars_meaning.specs.Told.{template_text}
-use Rattle.handlebars_render.specs.View.{keeping, state_with}
+use Rattle.handlebars_expand.specs.View.{keeping, state_with}
 use Rattle.handlebars_render.proofs.Puts.{none_told, plain-at, text_as, text_puts}
 use Rattle.handlebars_render.proofs.write.write_text.Goals as goal
 

@@ -2,7 +2,7 @@ use Rattle.std.proofs.Common.{ap, ◌∙◌}
 use Rattle.handlebars_base.specs.Shown.{escaped_if}
 use Rattle.handlebars_scope.specs.LineView.{line_of}
 use Rattle.handlebars_scope.specs.LineState.{LineState, line_behind}
-use Rattle.handlebars_render.specs.View.{state_with, with_line}
+use Rattle.handlebars_expand.specs.View.{state_with, with_line}
 use Rattle.handlebars_render.proofs.Puts.{behind-if, text_as, under-at}
 use Rattle.handlebars_render.proofs.write.write_text_under.Goals as goal
 

@@ -2,7 +2,7 @@ use Rattle.std.proofs.Common.{ap, option_map, ◌∙◌}
 use Rattle.serde_json.specs.View.{view}
 use Rattle.handlebars_base.specs.Shown.{shown}
 use Rattle.handlebars_scope.specs.LineState.{LineState, line_behind}
-use Rattle.handlebars_render.specs.View.{state_with, with_line}
+use Rattle.handlebars_expand.specs.View.{state_with, with_line}
 use Rattle.handlebars_render.proofs.Puts.{plain-at, text_as}
 use Rattle.handlebars_render.proofs.write.write_value.Goals as goal
 

@@ -1,7 +1,7 @@
 use Rattle.serde_json.specs.View.{view}
 use Rattle.handlebars_base.specs.Shown.{shown}
 use Rattle.handlebars_base.proofs.ShownValues.{rendered-string}
-use Rattle.handlebars_render.specs.View.{state_with}
+use Rattle.handlebars_expand.specs.View.{state_with}
 use Rattle.handlebars_render.proofs.Puts.{text-no_memory}
 use Rattle.handlebars_render.proofs.write.write_value_under.Goals as goal
 

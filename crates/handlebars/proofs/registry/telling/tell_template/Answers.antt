@@ -1,9 +1,9 @@
 use Rattle.std.proofs.Common.{true, ap, sym}
 use Rattle.handlebars_scope.specs.Contexts.{data_of}
 use Rattle.handlebars_meaning.specs.Sites.{Whereabouts, first_tree}
-use Rattle.handlebars_render.specs.Boxed.{error_of}
+use Rattle.handlebars_expand.specs.Boxed.{error_of}
 use Rattle.handlebars_render.proofs.Carry.{carries-handed, carries-run}
-use Rattle.handlebars_render.proofs.Lent.{keeps-outside, kept-outside}
+use Rattle.handlebars_expand.proofs.Lent.{keeps-outside, kept-outside}
 use Rattle.handlebars.specs.Files.{tree_in}
 use Rattle.handlebars.proofs.OverLaws.{with-lawful}
 use Rattle.handlebars.proofs.Telling.{tells_run, tells_without_memory}

@@ -1,7 +1,7 @@
 use Rattle.std.proofs.Common.{false}
 use Rattle.handlebars_meaning.specs.Sites.{first_tree}
 use Rattle.handlebars_render.proofs.Carry.{carries-run}
-use Rattle.handlebars_render.proofs.Lent.{keeps-outside, kept-outside}
+use Rattle.handlebars_expand.proofs.Lent.{keeps-outside, kept-outside}
 use Rattle.handlebars.proofs.registry.writing.render_to.Goals as goal
 
 pub returns-in-Ok : goal.returns-in-Ok

@@ -1,7 +1,7 @@
 use Rattle.std.proofs.Common.{◌∙◌, sym, ap}
 use Rattle.handlebars_base.specs.Outputs.{Held}
 use Rattle.handlebars_scope.specs.Contexts.{data_of}
-use Rattle.handlebars_render.specs.Boxed.{error_of}
+use Rattle.handlebars_expand.specs.Boxed.{error_of}
 use Rattle.handlebars_render.proofs.Carry.{carries-handed}
 use Rattle.handlebars.specs.Files.{tree_in}
 use Rattle.handlebars.proofs.OverLaws.{with-lawful}

@@ -1,9 +1,9 @@
 use Rattle.std.proofs.Common.{false, None, refl}
 use Rattle.handlebars_meaning.specs.Sites.{first_tree, element_in}
 use Rattle.handlebars_render.proofs.Carry.{carries-only}
-use Rattle.handlebars_render.specs.Boxed.{error_of}
+use Rattle.handlebars_expand.specs.Boxed.{error_of}
 use Rattle.handlebars.proofs.Rendered.{carries-failed}
-use Rattle.handlebars_render.proofs.Lent.{keeps-outside, kept-outside}
+use Rattle.handlebars_expand.proofs.Lent.{keeps-outside, kept-outside}
 use Rattle.handlebars.proofs.render.TemplateElementRenderable.render.Goals as goal
 
 pub returns-in-Ok-clause-renders : goal.returns-in-Ok-clause-renders

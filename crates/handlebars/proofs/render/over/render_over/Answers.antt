@@ -1,8 +1,8 @@
 use Rattle.std.proofs.Common.{false}
 use Rattle.handlebars_meaning.specs.Sites.{first_tree}
 use Rattle.handlebars_render.proofs.Carry.{carries-run}
-use Rattle.handlebars_render.specs.Boxed.{error_of}
-use Rattle.handlebars_render.proofs.Lent.{keeps-outside, kept-outside}
+use Rattle.handlebars_expand.specs.Boxed.{error_of}
+use Rattle.handlebars_expand.proofs.Lent.{keeps-outside, kept-outside}
 use Rattle.handlebars.proofs.Rendered.{carries-failed}
 use Rattle.handlebars.proofs.render.over.render_over.Goals as goal
 

@@ -2,11 +2,11 @@ use Rattle.std.proofs.Common.{None, Ok, Err, refl}
 use Rattle.handlebars_template.specs.TreeView.{element_view}
 use Rattle.handlebars_meaning.specs.Evaluation.{decorator_alone}
 use Rattle.handlebars_meaning.specs.Sites.{first_tree, element_in}
-use Rattle.handlebars_render.specs.Boxed.{error_of}
-use Rattle.handlebars_render.specs.View.{state_of}
+use Rattle.handlebars_expand.specs.Boxed.{error_of}
+use Rattle.handlebars_expand.specs.View.{state_of}
 use Rattle.handlebars_render.proofs.Silent.{evals-does}
 use Rattle.handlebars.proofs.Evaluated.{evals-failed}
-use Rattle.handlebars_render.proofs.Lent.{kept-outside}
+use Rattle.handlebars_expand.proofs.Lent.{kept-outside}
 use Rattle.handlebars.proofs.render.evaluable.TemplateElementEvaluable.eval.Goals as goal
 
 pub returns-in-Ok-clause-evals : goal.returns-in-Ok-clause-evals

@@ -1,8 +1,8 @@
 use Rattle.std.proofs.Common.{refl}
-use Rattle.handlebars_render.specs.Boxed.{error_of}
-use Rattle.handlebars_render.specs.View.{state_of}
+use Rattle.handlebars_expand.specs.Boxed.{error_of}
+use Rattle.handlebars_expand.specs.View.{state_of}
 use Rattle.handlebars.proofs.Evaluated.{evals-failed}
-use Rattle.handlebars_render.proofs.Lent.{kept-outside}
+use Rattle.handlebars_expand.proofs.Lent.{kept-outside}
 use Rattle.handlebars.proofs.render.evaluable.TemplateEvaluable.eval.Goals as goal
 
 pub returns-in-Ok-clause-evals : goal.returns-in-Ok-clause-evals

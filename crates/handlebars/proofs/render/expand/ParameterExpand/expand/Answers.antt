@@ -2,11 +2,11 @@ use Rattle.std.proofs.Common.{sym, subst}
 use Rattle.handlebars_base.specs.PathAndData.{path_and_data}
 use Rattle.handlebars_template.specs.TreeView.{param_view}
 use Rattle.handlebars_meaning.specs.Values.{HasWrittenValue}
-use Rattle.handlebars_render.specs.Boxed.{error_of}
-use Rattle.handlebars_render.specs.View.{state_of, Yields}
+use Rattle.handlebars_expand.specs.Boxed.{error_of}
+use Rattle.handlebars_expand.specs.View.{state_of, Yields}
 use Rattle.handlebars.specs.View.{setting_of}
-use Rattle.handlebars_render.proofs.Carry.{yields-handed}
-use Rattle.handlebars_render.proofs.Lent.{kept-outside}
+use Rattle.handlebars_expand.proofs.Handed.{yields-handed}
+use Rattle.handlebars_expand.proofs.Lent.{kept-outside}
 use Rattle.handlebars.proofs.render.expand.ParameterExpand.expand.Goals as goal
 
 pub returns-in-Ok-clause-expands : goal.returns-in-Ok-clause-expands

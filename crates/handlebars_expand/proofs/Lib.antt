@@ -1,0 +1,17 @@
+pub mod Handed
+pub mod HeardWalks
+pub mod Asked
+pub mod Bare
+pub mod LentBlocks
+pub mod Kept
+pub mod Evaluates
+pub mod LoneValues
+pub mod Located
+pub mod Ordered
+pub mod Values
+pub mod BoundCalls
+pub mod Changed
+pub mod Nearest
+pub mod Bases
+pub mod Tags
+pub mod Lent

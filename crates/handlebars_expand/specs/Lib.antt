@@ -1,0 +1,11 @@
+pub mod PiecesView
+pub mod View
+pub mod Boxed
+pub mod Targets
+pub mod Judgement
+pub mod Bound
+pub mod OwnChoice
+pub mod Bare
+pub mod BlocksView
+pub mod Lending
+pub mod Inclusions

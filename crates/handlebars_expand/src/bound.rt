@@ -1,0 +1,192 @@
+//! What calls go to: a callee, the name that it is asked by, and the call with the constants of a local helper.
+
+ghost use Rattle.std.specs.Prelude.{◌≡◌, IfOk, map, option_map, unwrap_or};
+ghost use Rattle.std.specs.Cow.{cow_str_bytes};
+ghost use Rattle.serde_json.specs.View.{view};
+ghost use Rattle.handlebars_base.specs.Answers.{Answers};
+ghost use Rattle.handlebars_base.specs.PathAndData.{path_and_data};
+ghost use Rattle.handlebars_helpers.specs.CallView.{HelperView, plain_value, with_constants};
+ghost use Rattle.handlebars_helpers.specs.OwnView.{callee_of, local_of};
+ghost use Rattle.handlebars_helpers.specs.View.{helper_view};
+ghost use Rattle.handlebars_meaning.specs.State.{bound_call, local_call};
+ghost use Rattle.handlebars_expand.specs.Boxed.{answer_of};
+ghost use Rattle.handlebars_expand.specs.Bound.{GoesTo, bound_of, call_of};
+ghost use Rattle.handlebars_expand.specs.Targets.{target_in};
+ghost use Rattle.handlebars_expand.specs.Judgement.{InState};
+ghost use Rattle.handlebars_expand.specs.View.{called_view, state_of};
+
+use crate::boxed::BoxedError;
+use crate::called::{Called, helper_not_found};
+use crate::context::RenderContext;
+use crate::environment::Environment;
+use crate::registered::{Registered, Target, hook};
+use handlebars_base::json::value::{Json, PathAndJson, ScopedJson};
+use handlebars_helpers::own::{Callee, LocalHelper};
+use handlebars_helpers::view::Helper;
+use std::alloc::{AllocError, Global};
+use std::borrow::CowStr;
+
+/// What a call goes to, the name that a helper of one's own is asked by, where that isn't the call's, and the call, with the
+/// constants of a local helper before its parameters.
+pub struct BoundCall<'a> {
+    pub callee: Callee,
+    pub asked_by: Option<CowStr<'a>>,
+    pub call: Called<'a>,
+}
+
+// By hand, so that each place that lets one go is one call.
+impl<'a> Drop for BoundCall<'a> {
+    fn drop(self) {
+        let BoundCall {
+            callee: _,
+            asked_by: _,
+            call: _,
+        } = self;
+    }
+}
+
+impl<'a> BoundCall<'a> {
+    /// Its parts.
+    pub fn into_parts(self) -> (Callee, Option<CowStr<'a>>, Called<'a>)
+        ensures { result ≡ (self.entry.callee, self.entry.asked_by, self.entry.call) }
+    {
+        let BoundCall {
+            callee,
+            asked_by,
+            call,
+        } = self;
+        (callee, asked_by, call)
+    }
+}
+
+/// The name that a helper of one's own is asked by: this one, or that of the call.
+pub fn asked_name<'n>(asked_by: &'n Option<CowStr>, view: &'n Helper) -> &'n str
+    ensures { result.now ≡ unwrap_or (option_map cow_str_bytes asked_by.now) (helper_view view.now).call.name }
+{
+    match asked_by {
+        Some(name) => name.as_str(),
+        None => view.name(),
+    }
+}
+
+/// What a call of this target goes to, of a block or not.
+pub fn bind<'a, P: Registered>(
+    environment: &Environment<P>,
+    rc: &RenderContext,
+    target: Target,
+    block: bool,
+    call: Called<'a>,
+) -> Result<BoundCall<'a>, BoxedError>
+    ensures { (h : HelperView) → Answers (bound_of h) (answer_of result) (call_of (P.parts environment.now.parts.now) (state_of rc.now).local
+        (target_in block (called_view call.entry).name target) (record h { call = called_view call.entry })) }
+{
+    match target {
+        Target::Built(kind) => Ok(BoundCall {
+            callee: Callee::Built(kind),
+            asked_by: None,
+            call,
+        }),
+        Target::Named => Ok(BoundCall {
+            callee: Callee::Own,
+            asked_by: None,
+            call,
+        }),
+        Target::Hooked => Ok(BoundCall {
+            callee: Callee::Own,
+            asked_by: Some(CowStr::Borrowed(hook(block))),
+            call,
+        }),
+        Target::Local => bind_local(environment, rc, call),
+    }
+}
+
+// What the local helper of a call's name goes to.
+fn bind_local<'a, P: Registered>(
+    environment: &Environment<P>,
+    rc: &RenderContext,
+    call: Called<'a>,
+) -> Result<BoundCall<'a>, BoxedError>
+    ensures { (h : HelperView) → Answers (bound_of h) (answer_of result) (local_call (P.parts environment.now.parts.now)
+        ((state_of rc.now).local (called_view call.entry).name) (called_view call.entry).name
+        (record h { call = called_view call.entry })) }
+{
+    match rc.get_local_helper(call.name.as_str()) {
+        Some(helper) => bind_to(environment, helper, call),
+        None => Err(helper_not_found(environment.alloc, call.name.as_str())),
+    }
+}
+
+// What this local helper goes to: what is registered under its name there, if anything still is.
+fn bind_to<'a, P: Registered>(
+    environment: &Environment<P>,
+    helper: &LocalHelper,
+    call: Called<'a>,
+) -> Result<BoundCall<'a>, BoxedError>
+    ensures { (h : HelperView) → Answers (bound_of h) (answer_of result) (bound_call (local_of helper.now)
+        (record h { call = called_view call.entry }) ((P.parts environment.now.parts.now).helper (local_of helper.now).registered)) }
+{
+    match environment.parts.helper(helper.registered.as_str()) {
+        Some(callee) => Ok(bound(environment.alloc, helper, callee, call)?),
+        None => Err(helper_not_found(environment.alloc, helper.registered.as_str())),
+    }
+}
+
+fn bound<'a>(
+    alloc: Global,
+    helper: &LocalHelper,
+    callee: Callee,
+    call: Called<'a>,
+) -> Result<BoundCall<'a>, AllocError>
+    ensures { IfOk result (λ b. (h : HelperView) → bound_of h b ≡ (
+      callee_of (local_of helper.now).registered callee,
+      with_constants (local_of helper.now).constants (record h { call = called_view call.entry }),
+    )) }
+{
+    let call = call.behind(plain_values(alloc, &helper.constants)?)?;
+    Ok(BoundCall {
+        callee,
+        asked_by: Some(CowStr::Owned(helper.registered.clone()?)),
+        call,
+    })
+}
+
+// Copies of values, which no text and no path of the template leads to.
+fn plain_values<'a>(
+    alloc: Global,
+    constants: &Vec<Json>,
+) -> Result<Vec<PathAndJson<'a>>, AllocError>
+    ensures { IfOk result (λ values. map path_and_data values.items ≡ map plain_value (map view constants.now.items)) }
+{
+    let mut values = Vec::new(alloc);
+    'constants: for constant in constants {
+        values.push(plain(constant.clone()?))?;
+    }
+    Ok(values)
+}
+
+fn plain<'a>(constant: Json) -> PathAndJson<'a>
+    ensures { path_and_data result ≡ plain_value (view constant) }
+{
+    PathAndJson::new(None, ScopedJson::Derived(constant))
+}
+
+/// What a call goes to, in a box.
+#[inline(never)]
+pub fn bind_boxed<'a, P: Registered>(
+    environment: &Environment<P>,
+    rc: &RenderContext,
+    target: Target,
+    block: bool,
+    call: Called<'a>,
+) -> Result<Box<BoundCall<'a>>, BoxedError>
+    ensures { InState P.parts environment.now rc.now (λ p s. GoesTo p s block
+        (target_in block (called_view call.entry).name target) (called_view call.entry) (answer_of result)) }
+{
+    match bind(environment, rc, target, block, call) {
+        Ok(bound) => match Box::new(environment.alloc, bound) {
+            Ok(bound) => Ok(bound),
+            Err(_) => Err(BoxedError::OutOfMemory),
+        },
+        Err(e) => Err(e),
+    }
+}

@@ -1,0 +1,355 @@
+//! The state of a rendering.
+
+ghost use Rattle.std.specs.Prelude.{◌≡◌, not, IfOk, OnOk, OnErr, true, false, is_some, map, option_map, slice_get, string_bytes};
+ghost use Rattle.std.specs.Borrow.{sem};
+ghost use Rattle.serde_json.specs.View.{view};
+ghost use Rattle.handlebars_template.specs.TreeView.{binding_of, binding_view, tree_view};
+ghost use Rattle.handlebars_scope.specs.Contexts.{data_of};
+ghost use Rattle.handlebars_scope.specs.ScopeView.{frame_of, frames_of, variables_of};
+ghost use Rattle.handlebars_helpers.specs.OwnView.{local_of};
+ghost use Rattle.handlebars_helpers.specs.Turns.{turn_frame};
+ghost use Rattle.handlebars_helpers.specs.View.{path_view, turn_view};
+ghost use Rattle.handlebars_expand.specs.Lending.{LendsBlock};
+ghost use Rattle.handlebars_meaning.specs.State.{push_frame, first_state, pop_frame, nearest_variables, partial_in, with_data, with_local, with_nearest, with_partial, without_local};
+ghost use Rattle.handlebars_expand.specs.View.{state_of, root_of, has_failed, HasOuter, IsKept, NearestBelow};
+
+mod blocks;
+mod lines;
+mod lookup;
+mod names;
+
+use crate::context::blocks::Blocks;
+use crate::null::Null;
+use handlebars_base::json::value::Json;
+use handlebars_helpers::own::LocalHelper;
+use handlebars_helpers::turn::{Turn, set_up_next_turn, set_up_turn};
+use handlebars_scope::block::BlockContext;
+use handlebars_scope::context::Context;
+use handlebars_scope::context::looked_up::LookedUp;
+use handlebars_scope::line::LineState;
+use handlebars_scope::local_vars::LocalVars;
+use handlebars_template::template::{BlockParam, Template};
+use std::alloc::{AllocError, Global};
+use std::collections::{BTreeMap, VecDeque};
+use std::rc::Rc;
+
+/// The state of a rendering: what templates change as they are rendered, and what decorators put in the place of
+/// the data and bind to names.
+pub struct RenderContext {
+    alloc: Global,
+    root_template: Option<String>,
+    current_template: Option<String>,
+    blocks: Blocks,
+    recursive_lookup: bool,
+    line: LineState,
+    escapes: bool,
+    failed: bool,
+    // What stands in the place of the data that was given, once a decorator changed it.
+    changed: Option<Context>,
+    local_helpers: BTreeMap<String, LocalHelper>,
+    // What is lent where a value of changed data is missing.
+    null: Null,
+    // How many members of the data were looked up for paths.
+    looked_up: LookedUp,
+}
+
+// By hand, so that each place that lets one go is one call.
+impl Drop for RenderContext {
+    fn drop(self) {
+        let RenderContext {
+            alloc: _,
+            root_template: _,
+            current_template: _,
+            blocks: _,
+            recursive_lookup: _,
+            line: _,
+            escapes: _,
+            failed: _,
+            changed: _,
+            local_helpers: _,
+            null: _,
+            looked_up: _,
+        } = self;
+    }
+}
+
+impl RenderContext {
+    /// The first state of a run, which the template of that name begins, if it has one.
+    pub fn new(alloc: Global, root_template: Option<&String>) -> Result<RenderContext, AllocError>
+        ensures state { IfOk result (λ rc. state_of rc ≡ first_state false) }
+        ensures root { IfOk result (λ rc. root_of rc ≡ option_map (λ name. string_bytes name.now) root_template.entry) }
+        ensures ready { IfOk result (λ rc. has_failed rc ≡ false) }
+    {
+        let root_template = match root_template {
+            Some(name) => Some(name.clone()?),
+            None => None,
+        };
+        let blocks = Blocks::new(alloc)?;
+        Ok(RenderContext {
+            alloc,
+            root_template,
+            current_template: None,
+            blocks,
+            recursive_lookup: false,
+            line: LineState::first(),
+            escapes: true,
+            failed: false,
+            changed: None,
+            local_helpers: BTreeMap::new(alloc),
+            null: Null::new(),
+            looked_up: LookedUp::new(),
+        })
+    }
+
+    /// Whether a rendering in this context was refused: the next ones are then refused too.
+    pub fn has_failed(&self) -> bool
+        ensures { result ≡ has_failed self.now }
+    {
+        self.failed
+    }
+
+    /// Makes a block of scope the nearest one. Where memory is refused, nothing is changed here, and
+    /// the block is gone.
+    pub fn push_block(&mut self, block: BlockContext) -> Result<(), AllocError>
+        ensures ok { OnOk result (state_of self.new ≡ push_frame (frame_of block) (state_of self.old)) }
+        ensures err { OnErr result (state_of self.new ≡ state_of self.old) }
+        ensures root { root_of self.new ≡ root_of self.old }
+        ensures failed { has_failed self.new ≡ has_failed self.old }
+    {
+        self.blocks.push(block)
+    }
+
+    /// Takes the nearest block of scope away, where there is one.
+    pub fn pop_block(&mut self)
+        ensures state { state_of self.new ≡ pop_frame (state_of self.old) }
+        ensures root { root_of self.new ≡ root_of self.old }
+        ensures failed { has_failed self.new ≡ has_failed self.old }
+    {
+        self.blocks.pop();
+    }
+
+    /// The nearest block of scope.
+    pub fn block(&self) -> Option<&BlockContext>
+        ensures { option_map (λ b. frame_of b.now) result ≡ slice_get (state_of self.now).blocks 0 }
+    {
+        self.blocks.nearest()
+    }
+
+    /// The nearest block of scope, to be changed.
+    pub fn block_mut(&mut self) -> Option<&mut BlockContext>
+        ensures* writes_back { sem 𝓛 (LendsBlock self.entry result) }
+        ensures value { option_map (λ b. frame_of b.now) result ≡ slice_get (state_of self.old).blocks 0 }
+    {
+        self.blocks.nearest_mut()
+    }
+
+    /// Other blocks of scope, nearest first, take the place of those that are there, which are given
+    /// back.
+    pub fn replace_blocks(&mut self, blocks: VecDeque<BlockContext>) -> VecDeque<BlockContext>
+        ensures replaced { frames_of result.items ≡ (state_of self.old).blocks }
+        ensures state { state_of self.new ≡ record (state_of self.old) { blocks = frames_of blocks.items } }
+        ensures root { root_of self.new ≡ root_of self.old }
+        ensures failed { has_failed self.new ≡ has_failed self.old }
+    {
+        self.blocks.replace(blocks)
+    }
+
+    /// From now on lookup is recursive, or isn't.
+    pub fn set_recursive_lookup(&mut self, enabled: bool)
+        ensures state { state_of self.new ≡ record (state_of self.old) { recursive = enabled } }
+        ensures root { root_of self.new ≡ root_of self.old }
+        ensures failed { has_failed self.new ≡ has_failed self.old }
+    {
+        self.recursive_lookup = enabled;
+    }
+
+    // Sets the nearest block up for a turn of `each`: the first one, or another one of the same.
+    pub fn set_up_turn(
+        &mut self,
+        first: bool,
+        binding: Option<&BlockParam>,
+        path: Option<&Vec<String>>,
+        turn: Turn,
+    ) -> Result<(), AllocError>
+        ensures ok { (first ≡ false → NearestBelow (path_view path.entry) (state_of self.old).blocks)
+            → OnOk result (state_of self.new ≡ with_nearest (turn_frame (path_view path.entry)
+            (binding_of (option_map (λ b. binding_view b.now) binding.entry)) (turn_view turn.entry))
+            (state_of self.old)) }
+        ensures outer { HasOuter self.old self.new }
+    {
+        match self.blocks.nearest_mut() {
+            Some(block) => {
+                if first {
+                    set_up_turn(self.alloc, block, binding, path, turn)
+                } else {
+                    set_up_next_turn(self.alloc, block, binding, path, turn)
+                }
+            }
+            None => Ok(()),
+        }
+    }
+
+    // The nearest block has this template under the name from now on; without any block nothing is changed.
+    pub fn set_partial(&mut self, name: &str, template: &Template) -> Result<(), AllocError>
+        ensures ok { OnOk result (state_of self.new
+            ≡ with_nearest (with_partial name.now (tree_view template.now)) (state_of self.old)) }
+        ensures kept { IsKept self.old self.new }
+    {
+        match self.blocks.nearest_mut() {
+            Some(block) => put_partial(self.alloc, block, name, template),
+            None => Ok(()),
+        }
+    }
+
+    /// The partial of a name that a decorator set: the one of the nearest block that has one.
+    pub fn get_partial(&self, name: &str) -> Option<&Template>
+        ensures { option_map (λ t. tree_view t.now) result ≡ partial_in (state_of self.now).blocks name.now }
+    {
+        match self.blocks.partial(name) {
+            Some(template) => Some(&**template),
+            None => None,
+        }
+    }
+
+    // The partial of a name that a decorator set, shared with the block that has it, which may be given another one while
+    // this is rendered.
+    pub fn shared_partial(&self, name: &str) -> Result<Option<Rc<Template>>, AllocError>
+        ensures { IfOk result (λ shared. option_map (λ t. tree_view t.value) shared
+            ≡ partial_in (state_of self.now).blocks name.now) }
+    {
+        match self.blocks.partial(name) {
+            Some(template) => Ok(Some(template.clone()?)),
+            None => Ok(None),
+        }
+    }
+
+    // The variables of the nearest block; without any block there are none.
+    pub fn nearest_variables(&self) -> Result<LocalVars, AllocError>
+        ensures { IfOk result (λ variables. variables_of variables ≡ nearest_variables (state_of self.now).blocks) }
+    {
+        match self.blocks.nearest() {
+            Some(block) => block.local_variables().clone(),
+            None => Ok(LocalVars::new(self.alloc)),
+        }
+    }
+
+    /// The data that a decorator put in the place of what was given, if one did.
+    pub fn context(&self) -> Option<&Context>
+        ensures { option_map (λ c. data_of c.now) result ≡ (state_of self.now).changed }
+    {
+        self.changed.as_ref()
+    }
+
+    /// From now on this data stands in the place of what was given: values of it have no path, and a
+    /// missing one is null.
+    pub fn set_context(&mut self, context: Context)
+        ensures state { state_of self.new ≡ with_data (data_of context) (state_of self.old) }
+        ensures kept { IsKept self.old self.new }
+    {
+        self.changed = Some(context);
+    }
+
+    /// Calls of this name go to the helper that is registered under another one, with the constants
+    /// before their parameters. Where memory is refused, nothing is changed.
+    pub fn register_local_helper(
+        &mut self,
+        name: &str,
+        registered: &str,
+        constants: Vec<Json>,
+    ) -> Result<(), AllocError>
+        ensures ok { OnOk result (state_of self.new ≡ with_local name.now (record {
+          registered = registered.now;
+          constants = map view constants.items;
+        })
+            (state_of self.old)) }
+        ensures err { OnErr result (state_of self.new ≡ state_of self.old) }
+        ensures kept { IsKept self.old self.new }
+    {
+        let name = String::from_str(self.alloc, name)?;
+        let registered = String::from_str(self.alloc, registered)?;
+        self.bind_helper(
+            name,
+            LocalHelper {
+                registered,
+                constants,
+            },
+        )
+    }
+
+    // Binds a name to a helper of its own, both of texts that nobody else needs.
+    pub fn bind_helper(&mut self, name: String, helper: LocalHelper) -> Result<(), AllocError>
+        ensures ok { OnOk result (state_of self.new
+            ≡ with_local (string_bytes name) (local_of helper) (state_of self.old)) }
+        ensures err { OnErr result (state_of self.new ≡ state_of self.old) }
+        ensures kept { IsKept self.old self.new }
+    {
+        self.local_helpers.insert(name, helper)?;
+        Ok(())
+    }
+
+    /// This name has no local helper any more.
+    pub fn unregister_local_helper(&mut self, name: &str)
+        ensures state { state_of self.new ≡ without_local name.now (state_of self.old) }
+        ensures kept { IsKept self.old self.new }
+    {
+        self.local_helpers.remove(name);
+    }
+
+    /// The local helper of a name.
+    pub fn get_local_helper(&self, name: &str) -> Option<&LocalHelper>
+        ensures { option_map (λ l. local_of l.now) result ≡ (state_of self.now).local name.now }
+    {
+        self.local_helpers.get(name)
+    }
+
+    // Whether a name has a local helper. Most contexts have none, which is seen at once.
+    pub(super) fn has_local_helper(&self, name: &str) -> bool
+        ensures { result ≡ is_some ((state_of self.now).local name.now) }
+    {
+        !self.local_helpers.is_empty() && self.local_helpers.contains_key(name)
+    }
+
+    /// Whether values are written as they are, and not escaped.
+    pub fn is_disable_escape(&self) -> bool
+        ensures { result ≡ not (state_of self.now).escapes }
+    {
+        !self.escapes
+    }
+
+    /// From now on values are written as they are, or escaped.
+    pub fn set_disable_escape(&mut self, disable: bool)
+        ensures state { state_of self.new ≡ record (state_of self.old) { escapes = not disable } }
+        ensures root { root_of self.new ≡ root_of self.old }
+        ensures failed { has_failed self.new ≡ has_failed self.old }
+    {
+        self.escapes = !disable;
+    }
+
+    // Whether values are escaped.
+    pub fn escapes(&self) -> bool
+        ensures { result ≡ (state_of self.now).escapes }
+    {
+        self.escapes
+    }
+
+    // From now on renderings are refused.
+    pub(super) fn fail(&mut self)
+        ensures { self.new ≡ record self.old { failed = true } }
+    {
+        self.failed = true;
+    }
+}
+
+// Puts a copy of a template under a name in a block.
+fn put_partial(
+    alloc: Global,
+    block: &mut BlockContext,
+    name: &str,
+    template: &Template,
+) -> Result<(), AllocError>
+    ensures ok { OnOk result (frame_of block.new ≡ with_partial name.now (tree_view template.now) (frame_of block.old)) }
+    ensures err { OnErr result (frame_of block.new ≡ frame_of block.old) }
+{
+    let copy = Rc::new(alloc, template.clone(alloc)?)?;
+    block.set_local_partial(name, copy)
+}

@@ -1,0 +1,169 @@
+//! The block of scope of an inclusion.
+
+ghost use Rattle.std.specs.Prelude.{◌≡◌, [], IfOk, IfSome};
+ghost use Rattle.serde_json.specs.View.{view};
+ghost use Rattle.handlebars_base.specs.Path.{relative};
+ghost use Rattle.handlebars_base.specs.PathView.{reference_of};
+ghost use Rattle.handlebars_scope.specs.MergedView.{pairs_in};
+ghost use Rattle.handlebars_scope.specs.Scopes.{empty_frame, nothing_at};
+ghost use Rattle.handlebars_scope.specs.ScopeView.{bounds_of, frame_of};
+ghost use Rattle.handlebars_helpers.specs.DecoratorsView.{tag_view};
+ghost use Rattle.handlebars_meaning.specs.Including.{base_value};
+ghost use Rattle.handlebars_meaning.specs.Inclusion.{with_bound};
+ghost use Rattle.handlebars_meaning.specs.State.{nearest_variables};
+ghost use Rattle.handlebars_expand.specs.Inclusions.{HasBase, StandsAt, lent_frame};
+ghost use Rattle.handlebars_expand.specs.Judgement.{InState};
+ghost use Rattle.handlebars_expand.specs.View.{setting_in, state_of, state_with, GivesValue, KeptIn, within, HasNodes};
+
+use crate::context::RenderContext;
+use crate::environment::Environment;
+use crate::registered::Registered;
+use handlebars_base::error::RenderError;
+use handlebars_base::json::path::Path;
+use handlebars_base::json::value::{Json, PathAndJson};
+use handlebars_helpers::decorators::view::Decorator;
+use handlebars_scope::block::{BlockContext, BlockParams};
+use handlebars_scope::context::reached::{Reached, wrong_index};
+use handlebars_scope::merge::merge;
+use std::alloc::{AllocError, Global};
+use std::collections::BTreeMap;
+
+/// A block of scope, and the value that is lent to it as its base, where it has none of its own.
+#[derive(Drop)]
+pub struct LentBlock<'v> {
+    pub block: BlockContext,
+    pub base: Option<&'v Json>,
+}
+
+/// The block of an inclusion: it stands at a value, merged with the pairs, which are bound to their keys too, and has the
+/// variables of the nearest block. Without pairs the value is lent to it, unless the context holds it.
+#[inline(always)]
+pub fn inclusion_block<'v, P: Registered>(
+    tag: &'v Decorator,
+    environment: &Environment<'v, 'v, P>,
+    rc: &RenderContext,
+) -> Result<LentBlock<'v>, RenderError>
+    requires nodes { HasNodes environment.now rc.now }
+    ensures { InState P.parts environment.now rc.now (λ p s. StandsAt p (tag_view tag.now) s lent_frame result) }
+{
+    match lent_base(tag, environment, rc) {
+        Some(base) => Ok(LentBlock {
+            block: plain_block(environment.alloc, rc)?,
+            base: Some(base),
+        }),
+        None => match own_block(tag, environment, rc) {
+            Ok(block) => Ok(LentBlock { block, base: None }),
+            Err(e) => Err(e),
+        },
+    }
+}
+
+// The value that an inclusion stands at, where there are no pairs and it can be lent: that of the first parameter, or
+// without one the current one.
+fn lent_base<'v, P: Registered>(
+    tag: &'v Decorator,
+    environment: &Environment<'v, 'v, P>,
+    rc: &RenderContext,
+) -> Option<&'v Json>
+    requires nodes { HasNodes environment.now rc.now }
+    ensures value { IfSome result (λ v. (kept : KeptIn (within environment.now)) → GivesValue (setting_in P.parts environment.now)
+        (base_value (tag_view tag.now).call.params) (state_with kept rc.now) (view v.now)) }
+    ensures plain { IfSome result (λ v. (tag_view tag.now).call.pairs ≡ []) }
+{
+    if !tag.hash().is_empty() {
+        return None;
+    }
+    match tag.param(0) {
+        Some(value) => Some(value.value()),
+        None => match rc.lent_current(environment.given.data(), environment.bases) {
+            Some(value) => Some(value),
+            None => None,
+        },
+    }
+}
+
+// A block with the variables of the nearest one, and nothing else. Within its caller it would be copied once more.
+#[inline(never)]
+fn plain_block(alloc: Global, rc: &RenderContext) -> Result<BlockContext, AllocError>
+    ensures { IfOk result (λ block. frame_of block
+        ≡ record empty_frame { variable = nearest_variables (state_of rc.now).blocks }) }
+{
+    match rc.block() {
+        Some(block) => BlockContext::with_variables_of(block),
+        None => Ok(BlockContext::new(alloc)),
+    }
+}
+
+// The block that has the value itself. It stands apart from its caller, which needs no room for it where the value is lent.
+#[inline(never)]
+fn own_block<P: Registered>(
+    tag: &Decorator,
+    environment: &Environment<'_, '_, P>,
+    rc: &RenderContext,
+) -> Result<BlockContext, RenderError>
+    requires nodes { HasNodes environment.now rc.now }
+    ensures { InState P.parts environment.now rc.now (λ p s. StandsAt p (tag_view tag.now) s frame_of result) }
+{
+    let base = match base(tag, environment, rc) {
+        Ok(base) => base,
+        Err(e) => return Err(e),
+    };
+    let mut block = plain_block(environment.alloc, rc)?;
+    block.set_block_params(bound_pairs(environment.alloc, tag.hash())?);
+    block.set_base_value(base);
+    Ok(block)
+}
+
+// The value of the first parameter, or without one the current one, merged with the pairs. A missing one counts as null.
+fn base<P: Registered>(
+    tag: &Decorator,
+    environment: &Environment<'_, '_, P>,
+    rc: &RenderContext,
+) -> Result<Json, RenderError>
+    requires nodes { HasNodes environment.now rc.now }
+    ensures { InState P.parts environment.now rc.now (λ p s. HasBase p (tag_view tag.now) s view result) }
+{
+    match tag.param(0) {
+        Some(value) => Ok(merge(environment.alloc, value.value(), tag.hash())?),
+        None => current(tag, environment, rc),
+    }
+}
+
+// The current value, merged with the pairs.
+fn current<P: Registered>(
+    tag: &Decorator,
+    environment: &Environment<'_, '_, P>,
+    rc: &RenderContext,
+) -> Result<Json, RenderError>
+    requires nodes { HasNodes environment.now rc.now }
+    ensures { InState P.parts environment.now rc.now (λ p s. (tag_view tag.now).call.params ≡ []
+        → HasBase p (tag_view tag.now) s view result) }
+{
+    let here = here(environment.alloc);
+    match rc.reach(environment.given.data(), &here, environment.bases) {
+        Reached::Value(value) => Ok(merge(environment.alloc, value, tag.hash())?),
+        Reached::Nothing => Ok(merge(environment.alloc, &Json::Null, tag.hash())?),
+        Reached::NoIndex(name) => Err(wrong_index(environment.alloc, name)),
+    }
+}
+
+// The path of the current value.
+fn here(alloc: Global) -> Path
+    ensures { reference_of result ≡ relative [] [] }
+{
+    Path::Relative((Vec::new(alloc), String::new(alloc)))
+}
+
+// Each pair, bound to its key.
+fn bound_pairs(
+    alloc: Global,
+    pairs: &BTreeMap<&str, PathAndJson>,
+) -> Result<BlockParams, AllocError>
+    ensures { IfOk result (λ bound. bounds_of bound ≡ with_bound (pairs_in pairs.now.entries) nothing_at) }
+{
+    let mut bound = BlockParams::new(alloc);
+    'pairs: for (key, value) in pairs.iter() {
+        bound.add_value(*key, value.value().clone()?)?;
+    }
+    Ok(bound)
+}

@@ -1,0 +1,181 @@
+//! What a run reads of a registry and of the logger that it is given.
+
+ghost use Rattle.std.specs.Prelude.{◌≡◌, Bool, map, option_map, string_bytes};
+ghost use Rattle.handlebars_base.specs.Bytes.{Text};
+ghost use Rattle.handlebars_template.specs.TreeView.{tree_view};
+ghost use Rattle.handlebars_helpers.specs.Callee.{calls_registered};
+ghost use Rattle.handlebars_helpers.specs.DecoratorsView.{decorator_called, deed_of, decorator_question_of};
+ghost use Rattle.handlebars_helpers.specs.EscapeView.{escaping_of};
+ghost use Rattle.handlebars_helpers.specs.OwnView.{helper_question_of, callee_of, offer_of, steps_of, IsOneOf};
+ghost use Rattle.handlebars_meaning.specs.State.{IsLawful, Parts, helper_for, helper_named, hook};
+ghost use Rattle.handlebars_expand.specs.Targets.{target_in};
+ghost use Rattle.handlebars_expand.specs.View.{state_of};
+
+use crate::context::RenderContext;
+use handlebars_base::error::RenderError;
+use handlebars_helpers::built_in::BuiltIn;
+use handlebars_helpers::decorators::view::Decorator;
+use handlebars_helpers::decorators::{DecoratorKind, DecoratorResult};
+use handlebars_helpers::escape::Escaping;
+use handlebars_helpers::own::{Callee, HelperResult, HelperValue};
+use handlebars_helpers::view::Helper;
+use handlebars_scope::context::Context;
+use handlebars_template::template::Template;
+use log::Level;
+
+/// What is registered under names.
+pub trait Registered {
+    // What it is, as definitions see it.
+    ghost parts: { Self → Parts };
+
+    /// What stands under a name of helpers, if anything does.
+    fn helper(&self, name: &str) -> Option<Callee>
+        ensures { option_map (callee_of name.now) result ≡ (parts self.now).helper name.now };
+
+    /// What the helper of one's own under a name answers when it is called: with the view of the call, the
+    /// data that was given, and what stands in its place, where it was changed.
+    fn steps_of(
+        &self,
+        name: &str,
+        view: &Helper,
+        given: &Context,
+        changed: Option<&Context>,
+    ) -> HelperResult
+        ensures { IsOneOf (((parts self.now).own name.now).has_steps
+            (helper_question_of view.now given.now changed.entry (parts self.now).strict)) steps_of result };
+
+    /// What it offers when it is asked for a value.
+    fn offer_of(
+        &self,
+        name: &str,
+        view: &Helper,
+        given: &Context,
+        changed: Option<&Context>,
+    ) -> Result<HelperValue, RenderError>
+        ensures { IsOneOf (((parts self.now).own name.now).has_offer
+            (helper_question_of view.now given.now changed.entry (parts self.now).strict)) offer_of result };
+
+    /// The decorator under a name, if there is one.
+    fn decorator(&self, name: &str) -> Option<DecoratorKind>
+        ensures { option_map (decorator_called name.now) result ≡ (parts self.now).decorator name.now };
+
+    /// What the decorator of one's own under a name answers for a tag.
+    fn deeds_of(
+        &self,
+        name: &str,
+        tag: &Decorator,
+        given: &Context,
+        changed: Option<&Context>,
+    ) -> DecoratorResult
+        ensures { IsOneOf ((parts self.now).own_decorator name.now
+            (decorator_question_of tag.now given.now changed.entry (parts self.now).strict)) (λ v. map deed_of v.items) result };
+
+    /// How values are escaped.
+    fn escape(&self) -> Escaping
+        ensures { escaping_of result ≡ (parts self.now).escape };
+
+    /// What an escape function of one's own answers for a text.
+    fn escaped(&self, text: &str) -> Result<String, RenderError>
+        ensures { IsOneOf ((parts self.now).own_escape text.now) string_bytes result };
+
+    /// The template under a name, if there is one.
+    fn template(&self, name: &str) -> Option<&Template>
+        ensures { option_map (λ t. tree_view t.now) result ≡ (parts self.now).template name.now };
+
+    /// How many inclusions may be rendered one within another.
+    fn limit(&self) -> u16
+        ensures { result ≡ (parts self.now).limit };
+
+    /// Whether the mode is strict.
+    fn strict(&self) -> bool
+        ensures { result ≡ (parts self.now).strict };
+
+    /// Whether blocks that call nothing act on the value of their name.
+    fn sections(&self) -> bool
+        ensures { result ≡ (parts self.now).sections };
+
+    /// Gives a line to the logger.
+    fn log(&self, level: Level, text: &str);
+
+    /// Nothing of one's own has two answers to one question.
+    fn keeps_law(&self)
+        ensures { IsLawful (parts self.now) };
+}
+
+/// What a call calls.
+#[derive(Clone, Copy, Debug, PartialEq, Eq)]
+pub enum Target {
+    Built(BuiltIn),
+    /// The helper of one's own under the call's name.
+    Named,
+    /// The one under the hook's name.
+    Hooked,
+    /// The local helper of the call's name.
+    Local,
+}
+
+/// What a call by a name calls, a block or not: the helper of the name, else the hook.
+#[inline(always)]
+pub fn helper_for<P: Registered>(
+    parts: &P,
+    rc: &RenderContext,
+    block: bool,
+    name: &str,
+) -> Option<Target>
+    ensures { option_map (target_in block name.now) result
+        ≡ helper_for (P.parts parts.now) (state_of rc.now) block name.now }
+{
+    match helper_named(parts, rc, name) {
+        Some(target) => Some(target),
+        None => match parts.helper(hook(block)) {
+            Some(callee) => Some(hooked(callee)),
+            None => None,
+        },
+    }
+}
+
+/// The helper of a name: a local one, else a registered one.
+#[inline(always)]
+pub fn helper_named<P: Registered>(parts: &P, rc: &RenderContext, name: &str) -> Option<Target>
+    ensures { (block : Bool) → option_map (target_in block name.now) result
+        ≡ helper_named (P.parts parts.now) (state_of rc.now) name.now }
+{
+    if rc.has_local_helper(name) {
+        return Some(Target::Local);
+    }
+    match parts.helper(name) {
+        Some(callee) => Some(named(callee)),
+        None => None,
+    }
+}
+
+/// What stands under a call's name.
+pub fn named(callee: Callee) -> Target
+    ensures { (block : Bool) (name : Text) → target_in block name result ≡ calls_registered (callee_of name callee) }
+{
+    match callee {
+        Callee::Built(kind) => Target::Built(kind),
+        Callee::Own => Target::Named,
+    }
+}
+
+/// What stands under the hook's name.
+pub fn hooked(callee: Callee) -> Target
+    ensures { (block : Bool) (name : Text) → target_in block name result ≡ calls_registered (callee_of (hook block) callee) }
+{
+    match callee {
+        Callee::Built(kind) => Target::Built(kind),
+        Callee::Own => Target::Hooked,
+    }
+}
+
+/// The name of the hook, of blocks or of other calls.
+pub fn hook(block: bool) -> &'static str
+    ensures { result.now ≡ hook block }
+{
+    if block {
+        "blockHelperMissing"
+    } else {
+        "helperMissing"
+    }
+}
