@@ -1,7 +1,7 @@
 -- The marks of html in a text.
 use Rattle.std.specs.List.{filter}
-use Rattle.std.specs.Prelude.{◌≡◌, ℕ, Bool, false, ◌||◌, ◌==◌, [], ◌∷◌, IfSome, Option, String, string_bytes}
-use Rattle.std.specs.declared.alloc.Global.{Global}
+use Rattle.std.specs.Prelude.{◌≡◌, ℕ, Bool, false, ◌||◌, ◌==◌, [], ◌∷◌, IfSome, Option}
+use Rattle.std.specs.Borrow.{Bor}
 use Rattle.handlebars_base.specs.Bytes.{Text}
 use Rattle.handlebars_base.specs.EscapeLaws.{marks}
 
@@ -18,5 +18,5 @@ abbrev pub marks_in : Text → Text
 marks_in = filter is_mark
 
 -- The text has these marks, if any are wanted.
-abbrev pub HasMarks : Text → Option (String Global) → Type 0
-HasMarks text wanted = IfSome wanted (λ marks. marks_in text ≡ string_bytes marks)
+abbrev pub HasMarks : Text → Option (Bor Text) → Type 0
+HasMarks text wanted = IfSome wanted (λ marks. marks_in text ≡ marks.now)

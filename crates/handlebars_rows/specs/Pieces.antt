@@ -1,8 +1,7 @@
 -- Pieces, as plain data.
 use Rattle.std.specs.List.{flat_map}
 use Rattle.std.specs.Prelude.{◌≡◌, ℕ, List, IfSome, map, Option, option_map, string_bytes}
-use Rattle.std.specs.declared.alloc.Global.{Global}
-use Rattle.std.specs.declared.vec.Vec.{Vec}
+use Rattle.std.specs.Borrow.{Bor}
 use Rattle.handlebars_base.specs.Bytes.{Text}
 use Rattle.handlebars_template.specs.Place.{Place}
 use Rattle.handlebars_template.specs.TreeView.{place_of}
@@ -44,5 +43,5 @@ abbrev pub text_of : List Piece → Text
 text_of pieces = flat_map (λ p. string_bytes p.text) pieces
 
 -- The pieces are these, if any are wanted.
-abbrev pub ArePieces : List Piece → Option (Vec Piece Global) → Type 0
-ArePieces pieces wanted = IfSome wanted (λ ps. map piece_view pieces ≡ map piece_view ps.items)
+abbrev pub ArePieces : List Piece → Option (Bor (List Piece)) → Type 0
+ArePieces pieces wanted = IfSome wanted (λ ps. map piece_view pieces ≡ map piece_view ps.now)

@@ -1,22 +1,22 @@
 //! An output that takes so much.
 
+use crate::fault::Fault;
 use handlebars_base::output::{Output, StringOutput};
 use std::alloc::Global;
 use std::io;
-use std::io::ErrorKind;
 
 /// Takes so many bytes. A segment that has more than it still takes is refused, and so are all behind it.
 #[derive(Drop)]
 pub struct Bounded {
     kept: StringOutput,
     room: usize,
-    fault: ErrorKind,
+    fault: Fault,
     refused: u64,
 }
 
 impl Bounded {
     /// Nothing yet.
-    pub fn new(alloc: Global, room: usize, fault: ErrorKind) -> Bounded {
+    pub fn new(alloc: Global, room: usize, fault: Fault) -> Bounded {
         Bounded {
             kept: StringOutput::new(alloc),
             room,
@@ -48,7 +48,7 @@ impl Output for Bounded {
         if seg.len() > self.room {
             self.room = 0;
             self.refused = self.refused.saturating_add(1);
-            return Err(io::Error::from(self.fault));
+            return Err(io::Error::from(self.fault.kind()));
         }
         self.room -= seg.len();
         match self.kept.write(seg) {

@@ -1,6 +1,6 @@
 //! Why rows aren't read or run.
 
-use std::alloc::{AllocError, AllocFailed};
+use std::alloc::{AllocError, AllocFailed, Global};
 use std::{fmt, io};
 
 /// Why the words, the files of a word or the rows of a file aren't there.
@@ -51,6 +51,16 @@ pub enum RowFailure {
     Field(String, &'static str),
     /// What is wrong with the fields together.
     Fields(&'static str),
+}
+
+impl RowFailure {
+    /// The failure of the field of this name.
+    pub fn of_field(alloc: Global, name: &str, what: &'static str) -> RowFailure {
+        match String::from_str(alloc, name) {
+            Ok(name) => RowFailure::Field(name, what),
+            Err(AllocError) => RowFailure::Fields("out of memory"),
+        }
+    }
 }
 
 impl fmt::Display for RowFailure {

@@ -1,6 +1,7 @@
 //! The files that words stand for.
 
 use crate::failure::Failure;
+use std::alloc::{AllocError, Global};
 use std::rt::{Env, Files};
 use std::{env, fs};
 
@@ -38,16 +39,34 @@ fn folder_paths<R: Files + AllocGlobal + Clone + Drop>(
     folder: &str,
 ) -> Result<Vec<String>, Failure> {
     let mut paths = Vec::new(rt.alloc());
-    for entry in fs::read_dir(rt, folder).map_err(Failure::CannotRead)? {
-        let entry = entry.map_err(Failure::CannotRead)?;
-        let name = entry.file_name();
-        if name.ends_with(".json") {
-            paths.push(format!(in rt.alloc(); "{folder}/{name}")?)?;
-        }
-    }
+    push_paths(rt, folder, &mut paths)?;
     if paths.is_empty() {
         return Err(Failure::NoFiles);
     }
     paths.sort()?;
     Ok(paths)
+}
+
+fn push_paths<R: Files + AllocGlobal + Clone + Drop>(
+    rt: &R,
+    folder: &str,
+    paths: &mut Vec<String>,
+) -> Result<(), Failure> {
+    for entry in fs::read_dir(rt, folder).map_err(Failure::CannotRead)? {
+        let entry = entry.map_err(Failure::CannotRead)?;
+        push_json(rt.alloc(), folder, entry.file_name(), paths)?;
+    }
+    Ok(())
+}
+
+fn push_json(
+    alloc: Global,
+    folder: &str,
+    name: &str,
+    paths: &mut Vec<String>,
+) -> Result<(), AllocError> {
+    if name.ends_with(".json") {
+        paths.push(format!(in alloc; "{folder}/{name}")?)?;
+    }
+    Ok(())
 }

@@ -8,21 +8,21 @@ pub struct JsonText<'t>(pub &'t str);
 
 impl fmt::Display for JsonText<'_> {
     fn fmt<W: fmt::Write>(&self, f: &mut fmt::Formatter<W>) -> fmt::Result {
-        write!(f, "\"")?;
+        f.write_str("\"")?;
         for c in self.0.chars() {
             write_char(f, c)?;
         }
-        write!(f, "\"")
+        f.write_str("\"")
     }
 }
 
 fn write_char<W: fmt::Write>(f: &mut fmt::Formatter<W>, c: char) -> fmt::Result {
     match c {
-        '"' => write!(f, "\\\""),
-        '\\' => write!(f, "\\\\"),
-        '\n' => write!(f, "\\n"),
-        '\r' => write!(f, "\\r"),
-        '\t' => write!(f, "\\t"),
+        '"' => f.write_str("\\\""),
+        '\\' => f.write_str("\\\\"),
+        '\n' => f.write_str("\\n"),
+        '\r' => f.write_str("\\r"),
+        '\t' => f.write_str("\\t"),
         _ if is_control(c) => write!(f, "\\u{:04x}", c as u32),
         _ => write!(f, "{c}"),
     }

@@ -6,8 +6,8 @@ ghost use Rattle.handlebars_rows.specs.Marks.{HasMarks, is_mark, marks_in};
 use std::fmt;
 
 /// Whether the text has these marks, if any are wanted.
-pub fn has_marks(text: &str, wanted: &Option<String>) -> bool
-    ensures { IsTrue result → HasMarks text.now wanted.now }
+pub fn has_marks(text: &str, wanted: Option<&str>) -> bool
+    ensures { IsTrue result → HasMarks text.now wanted.entry }
 {
     match wanted {
         Some(marks) => are_marks(text.as_bytes(), marks.as_bytes()),
@@ -59,19 +59,19 @@ pub struct MarksOf<'t>(pub &'t str);
 
 impl fmt::Display for MarksOf<'_> {
     fn fmt<W: fmt::Write>(&self, f: &mut fmt::Formatter<W>) -> fmt::Result {
-        write!(f, "\"")?;
+        f.write_str("\"")?;
         for byte in self.0.bytes() {
             if is_mark(byte) {
                 write_mark(f, byte)?;
             }
         }
-        write!(f, "\"")
+        f.write_str("\"")
     }
 }
 
 fn write_mark<W: fmt::Write>(f: &mut fmt::Formatter<W>, mark: u8) -> fmt::Result {
     match mark {
-        b'"' => write!(f, "\\\""),
+        b'"' => f.write_str("\\\""),
         _ => write!(f, "{}", mark as char),
     }
 }

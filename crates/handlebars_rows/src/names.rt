@@ -4,6 +4,16 @@ use serde_json::Value as JsonValue;
 use std::alloc::{AllocError, Global};
 use std::fmt;
 
+/// Whether it is one of these names, which spaces separate.
+pub fn is_among(name: &str, names: &str) -> bool {
+    for one in names.split(' ') {
+        if one == name {
+            return true;
+        }
+    }
+    false
+}
+
 /// Names or paths, one after another.
 #[derive(Drop)]
 pub struct Names {
@@ -34,9 +44,9 @@ impl Names {
     }
 
     /// Whether they are those that are wanted, if any are.
-    pub fn are(&self, wanted: &Option<Vec<JsonValue>>) -> bool {
+    pub fn are(&self, wanted: Option<&[JsonValue]>) -> bool {
         match wanted {
-            Some(wanted) => all_are(self.all.as_slice(), wanted.as_slice()),
+            Some(wanted) => all_are(self.all.as_slice(), wanted),
             None => true,
         }
     }

@@ -1,7 +1,7 @@
-//! The calls of parts that rows ask, by their names, and what each answers.
+//! The calls of parts that rows ask, by their names, and what each answers. `call` has the names, too.
 
 use crate::call::Call;
-use crate::reply::{Reply, answered, gives, held, shown, told};
+use crate::reply::{KeptReply, answered, held, shown, told};
 use handlebars_base::error::{RenderError, TemplateError};
 use handlebars_base::json::path::{Path, read_front, split_path};
 use handlebars_base::support::{escape_html, html_escape, no_escape};
@@ -13,124 +13,88 @@ use handlebars_scope::context::bases::Bases;
 use handlebars_scope::context::looked_up::LookedUp;
 use handlebars_scope::context::walk::resolve;
 use handlebars_template::template::{Parameter, Template, TemplateOptions};
+use serde_json::Value as JsonValue;
 use std::alloc::{AllocError, Global};
 use std::collections::VecDeque;
 
-/// Calls that are asked of a text, and need no context of rendering.
-#[derive(Clone, Copy)]
-pub enum PartCall {
-    ParsePath,
-    SplitPath,
-    ReadFront,
-    SplitLiteral,
-    LiteralValue,
-    SplitLine(NameMode, Enclosure),
-    SplitBinding,
-    ParseParameter,
-    Compile,
-    CompileWithName,
-    Compile2,
-    EscapeHtml,
-    HtmlEscape,
-    NoEscape,
-    Resolve,
-}
-
-impl PartCall {
-    /// The call of that name.
-    pub fn named(name: &str) -> Option<PartCall> {
-        match name {
-            "Path::parse" => Some(PartCall::ParsePath),
-            "split_path" => Some(PartCall::SplitPath),
-            "read_front" => Some(PartCall::ReadFront),
-            "split_literal" => Some(PartCall::SplitLiteral),
-            "literal_value" => Some(PartCall::LiteralValue),
-            "split_line(Tag)" => Some(PartCall::SplitLine(NameMode::Value, Enclosure::Tag)),
-            "split_line(Block)" => Some(PartCall::SplitLine(
-                NameMode::Identifier,
-                Enclosure::Block,
-            )),
-            "split_line(Parentheses)" => {
-                Some(PartCall::SplitLine(NameMode::Value, Enclosure::Parentheses))
-            }
-            "split_line(Close)" => Some(PartCall::SplitLine(NameMode::Close, Enclosure::Tag)),
-            "split_binding" => Some(PartCall::SplitBinding),
-            "Parameter::parse" => Some(PartCall::ParseParameter),
-            "Template::compile" => Some(PartCall::Compile),
-            "Template::compile_with_name" => Some(PartCall::CompileWithName),
-            "Template::compile2" => Some(PartCall::Compile2),
-            "escape_html" => Some(PartCall::EscapeHtml),
-            "html_escape" => Some(PartCall::HtmlEscape),
-            "no_escape" => Some(PartCall::NoEscape),
-            "resolve" => Some(PartCall::Resolve),
-            _ => None,
-        }
-    }
-}
-
-impl Call {
-    /// Asks the call of a part.
+impl Call<'_> {
+    /// What the call of a part answers of a text, which needs no context of rendering.
     pub fn part_reply(
         &self,
         alloc: Global,
-        call: PartCall,
+        data: &JsonValue,
         text: &str,
-    ) -> Result<Reply, AllocError> {
-        match call {
-            PartCall::ParsePath => answered(alloc, Path::parse(alloc, text)),
-            PartCall::SplitPath => shown(alloc, &split_path(text)),
-            PartCall::ReadFront => held(alloc, read_front(alloc, text)),
-            PartCall::SplitLiteral => shown(alloc, &split_literal(alloc, text)?),
-            PartCall::LiteralValue => held(alloc, literal_value(alloc, text)),
-            PartCall::SplitLine(mode, enclosure) => {
-                shown(alloc, &split_line(alloc, mode, enclosure, text)?)
-            }
-            PartCall::SplitBinding => shown(alloc, &split_binding(text)),
-            PartCall::ParseParameter => answered(alloc, Parameter::parse(alloc, text)),
-            PartCall::Compile => answered(alloc, Template::compile(alloc, text)),
-            PartCall::CompileWithName => answered(alloc, self.compiled_with_name(alloc, text)),
-            PartCall::Compile2 => answered(alloc, self.compiled2(alloc, text)),
-            PartCall::EscapeHtml => gives(escape_html(alloc, text)),
-            PartCall::HtmlEscape => gives(html_escape(alloc, text)),
-            PartCall::NoEscape => gives(no_escape(alloc, text)),
-            PartCall::Resolve => told(alloc, self.resolved(alloc, text)),
+    ) -> Result<KeptReply, AllocError> {
+        match self.call {
+            "Path::parse" => answered(alloc, Path::parse(alloc, text)),
+            "split_path" => shown(alloc, &split_path(text)),
+            "read_front" => held(alloc, read_front(alloc, text)),
+            "split_literal" => held(alloc, split_literal(alloc, text)),
+            "literal_value" => held(alloc, literal_value(alloc, text)),
+            "split_line(Tag)" => line(alloc, NameMode::Value, Enclosure::Tag, text),
+            "split_line(Block)" => line(alloc, NameMode::Identifier, Enclosure::Block, text),
+            "split_line(Parentheses)" => line(alloc, NameMode::Value, Enclosure::Parentheses, text),
+            "split_line(Close)" => line(alloc, NameMode::Close, Enclosure::Tag, text),
+            "split_binding" => shown(alloc, &split_binding(text)),
+            "Parameter::parse" => answered(alloc, Parameter::parse(alloc, text)),
+            _ => self.source_reply(alloc, data, text),
         }
     }
 
-    // The name that the call takes, or none.
-    fn name_of(&self, alloc: Global) -> Result<String, AllocError> {
-        match &self.name {
-            Some(name) => name.clone(),
-            None => Ok(String::new(alloc)),
+    // Of what is rendered: a source, a text that is escaped, a path into data.
+    fn source_reply(
+        &self,
+        alloc: Global,
+        data: &JsonValue,
+        text: &str,
+    ) -> Result<KeptReply, AllocError> {
+        match self.call {
+            "Template::compile" => answered(alloc, Template::compile(alloc, text)),
+            "Template::compile_with_name" => answered(alloc, self.compiled_with_name(alloc, text)),
+            "Template::compile2" => answered(alloc, self.compiled2(alloc, text)),
+            "escape_html" => Ok(KeptReply::Gives(escape_html(alloc, text)?)),
+            "html_escape" => Ok(KeptReply::Gives(html_escape(alloc, text)?)),
+            "no_escape" => Ok(KeptReply::Gives(no_escape(alloc, text)?)),
+            _ => told(alloc, resolved(alloc, data, text)),
         }
     }
 
     fn compiled_with_name(&self, alloc: Global, source: &str) -> Result<Template, TemplateError> {
-        let name = self.name_of(alloc)?;
+        let name = String::from_str(alloc, self.name)?;
         Template::compile_with_name(alloc, source, name)
     }
 
     fn compiled2(&self, alloc: Global, source: &str) -> Result<Template, TemplateError> {
         let options = TemplateOptions {
-            name: Some(self.name_of(alloc)?),
+            name: Some(String::from_str(alloc, self.name)?),
             prevent_indent: true,
         };
         Template::compile2(alloc, source, options)
     }
+}
 
-    // Without any block.
-    fn resolved(&self, alloc: Global, path: &str) -> Result<String, RenderError> {
-        let path = Path::parse(alloc, path)?;
-        let blocks = VecDeque::new(alloc);
-        let found = resolve(
-            alloc,
-            &self.data,
-            &path,
-            &blocks,
-            &Bases::Outside,
-            false,
-            &LookedUp::new(),
-        )?;
-        Ok(format!(in alloc; "{found:?}")?)
-    }
+fn line(
+    alloc: Global,
+    mode: NameMode,
+    enclosure: Enclosure,
+    text: &str,
+) -> Result<KeptReply, AllocError> {
+    held(alloc, split_line(alloc, mode, enclosure, text))
+}
+
+// Without any block.
+fn resolved(alloc: Global, data: &JsonValue, path: &str) -> Result<String, RenderError> {
+    let path = Path::parse(alloc, path)?;
+    let blocks = VecDeque::new(alloc);
+    let outside = Bases::Outside;
+    let found = resolve(
+        alloc,
+        data,
+        &path,
+        &blocks,
+        &outside,
+        false,
+        &LookedUp::new(),
+    )?;
+    Ok(format!(in alloc; "{found:?}")?)
 }

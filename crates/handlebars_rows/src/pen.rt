@@ -3,12 +3,12 @@
 ghost use Rattle.std.specs.Io.{WritesAtMost};
 ghost use Rattle.std.specs.Prelude.{◌≡◌, IfOk};
 
-use crate::failure::RowFailure;
-use crate::fields;
+use crate::fault::Fault;
+use crate::fields::Fields;
 use serde_json::Value as JsonValue;
 use std::alloc::{AllocError, Global};
 use std::io;
-use std::io::{ErrorKind, Write};
+use std::io::Write;
 
 /// What a writer takes.
 #[derive(Clone, Copy)]
@@ -17,8 +17,8 @@ pub struct Taking {
     pub most: usize,
     /// Which write fails, from 1, if one does.
     pub fails: Option<u64>,
-    /// How it fails: by an error of this kind, or by a count of 0.
-    pub fault: Option<ErrorKind>,
+    /// How it fails: by this error, or by a count of 0.
+    pub fault: Option<Fault>,
 }
 
 impl Taking {
@@ -27,12 +27,12 @@ impl Taking {
         Taking {
             most: usize::MAX,
             fails: None,
-            fault: Some(ErrorKind::NotFound),
+            fault: Some(Fault::NOT_FOUND),
         }
     }
 
     /// These few bytes a write, with this one failing so.
-    pub fn failing(most: usize, fails: u64, fault: Option<ErrorKind>) -> Taking {
+    pub fn failing(most: usize, fails: u64, fault: Option<Fault>) -> Taking {
         Taking {
             most,
             fails: Some(fails),
@@ -40,72 +40,39 @@ impl Taking {
         }
     }
 
-    // As a field of this name says, if there is such a one.
-    fn with(self, name: &str, value: &JsonValue) -> Option<Taking> {
-        match name {
-            "most" => self.with_most(value),
-            "fails" => self.with_failing(value),
-            "fault" => self.with_fault(value),
-            _ => None,
+    /// What an object says that has only the fields of a writer.
+    pub fn read(value: &JsonValue) -> Option<Taking> {
+        let members = value.as_object()?;
+        for (name, value) in members.iter() {
+            if !is_field(name.as_str(), value) {
+                return None;
+            }
         }
+        Some(Taking::of(Fields(members)))
     }
 
-    fn with_most(self, value: &JsonValue) -> Option<Taking> {
-        let most = value.as_u64()?;
-        if most == 0 {
-            return None;
-        }
-        Some(Taking {
-            most: most as usize,
-            ..self
-        })
-    }
-
-    fn with_failing(self, value: &JsonValue) -> Option<Taking> {
-        let fails = value.as_u64()?;
-        if fails == 0 {
-            return None;
-        }
-        Some(Taking {
-            fails: Some(fails),
-            ..self
-        })
-    }
-
-    fn with_fault(self, value: &JsonValue) -> Option<Taking> {
-        match value.as_u64() {
-            Some(0) => Some(Taking {
-                fault: None,
-                ..self
-            }),
-            Some(_) => None,
-            None => Some(Taking {
-                fault: Some(fields::fault(value)?),
-                ..self
-            }),
+    fn of(fields: Fields<'_>) -> Taking {
+        Taking {
+            most: fields.number("most").unwrap_or(usize::MAX),
+            fails: fails_of(fields),
+            fault: match fields.get("fault") {
+                Some(value) => Fault::read(value),
+                None => Some(Fault::NOT_FOUND),
+            },
         }
     }
 }
 
-/// Sets the field to what a writer takes.
-pub fn set_taking(
-    field: &mut Option<Taking>,
-    name: String,
-    value: &JsonValue,
-) -> Result<(), RowFailure> {
-    let Some(taking) = read_taking(value) else {
-        return Err(RowFailure::Field(name, "is no writer"));
-    };
-    *field = Some(taking);
-    Ok(())
+fn fails_of(fields: Fields<'_>) -> Option<u64> {
+    fields.get("fails")?.as_u64()
 }
 
-fn read_taking(value: &JsonValue) -> Option<Taking> {
-    let mut taking = Taking::all();
-    for (name, value) in value.as_object()?.iter() {
-        taking = taking.with(name.as_str(), value)?;
+fn is_field(name: &str, value: &JsonValue) -> bool {
+    match name {
+        "most" | "fails" => value.as_u64().unwrap_or(0) > 0,
+        "fault" => value.as_u64() == Some(0) || Fault::read(value).is_some(),
+        _ => false,
     }
-    Some(taking)
 }
 
 /// Takes few bytes a write. One write fails; those behind it take again, so that it is seen where there are any.
@@ -153,7 +120,7 @@ impl Pen {
         ensures { IfOk result (λ count. count ≡ 0) }
     {
         match self.taking.fault {
-            Some(kind) => Err(io::Error::from(kind)),
+            Some(fault) => Err(io::Error::from(fault.kind())),
             None => Ok(0),
         }
     }

@@ -5,10 +5,11 @@ ghost use Rattle.handlebars_rows.specs.Pieces.{piece_view, template_view};
 
 use crate::json_text::JsonText;
 use handlebars_template::template::TemplateMapping;
+use serde_json::Value as JsonValue;
+use std::alloc::Global;
 use std::fmt;
 
 /// A piece of a text, as an output is told of it.
-#[derive(Drop)]
 pub struct Piece {
     pub text: String,
     pub kind: Kind,
@@ -19,6 +20,19 @@ pub struct Piece {
     pub turns: Vec<usize>,
     /// The path that a value was walked by, if it has one.
     pub path: Option<Vec<String>>,
+}
+
+impl Drop for Piece {
+    fn drop(self) {
+        let Piece {
+            text: _,
+            kind: _,
+            template: _,
+            place: _,
+            turns: _,
+            path: _,
+        } = self;
+    }
 }
 
 /// Of what kind a piece is.
@@ -42,6 +56,11 @@ pub enum PieceTemplate {
 }
 
 impl Kind {
+    /// The kind that a text names.
+    pub fn read(value: &JsonValue) -> Option<Kind> {
+        Kind::named(value.as_str()?)
+    }
+
     /// The kind of that name.
     pub fn named(name: &str) -> Option<Kind> {
         match name {
@@ -68,6 +87,18 @@ impl Kind {
 }
 
 impl Piece {
+    /// A piece of this kind, whose element has this place, with nothing else yet.
+    pub fn new(alloc: Global, kind: Kind, place: Option<TemplateMapping>) -> Piece {
+        Piece {
+            text: String::new(alloc),
+            kind,
+            template: PieceTemplate::First,
+            place,
+            turns: Vec::new(alloc),
+            path: None,
+        }
+    }
+
     /// Whether both are one piece.
     pub fn equals(&self, other: &Piece) -> bool
         ensures { IsTrue result → piece_view self.now ≡ piece_view other.now }
@@ -126,7 +157,7 @@ impl fmt::Display for Piece {
         if let Some(path) = &self.path {
             write_path(f, path.as_slice())?;
         }
-        write!(f, "}}")
+        f.write_str("}")
     }
 }
 
@@ -136,7 +167,7 @@ fn write_template<W: fmt::Write>(
 ) -> fmt::Result {
     match template {
         PieceTemplate::First => Ok(()),
-        PieceTemplate::Included(None) => write!(f, ", \"template\": null"),
+        PieceTemplate::Included(None) => f.write_str(", \"template\": null"),
         PieceTemplate::Included(Some(name)) => {
             write!(f, ", \"template\": {}", JsonText(name.as_str()))
         }
@@ -144,12 +175,12 @@ fn write_template<W: fmt::Write>(
 }
 
 fn write_path<W: fmt::Write>(f: &mut fmt::Formatter<W>, path: &[String]) -> fmt::Result {
-    write!(f, ", \"path\": [")?;
+    f.write_str(", \"path\": [")?;
     for (index, name) in path.iter().enumerate() {
         if index > 0 {
-            write!(f, ", ")?;
+            f.write_str(", ")?;
         }
         write!(f, "{}", JsonText(name.as_str()))?;
     }
-    write!(f, "]")
+    f.write_str("]")
 }

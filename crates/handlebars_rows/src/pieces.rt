@@ -4,8 +4,7 @@ ghost use Rattle.std.specs.Prelude.{◌≡◌, List, ◌∷◌, IfOk, IfSome, Is
 ghost use Rattle.handlebars_rows.specs.Pieces.{ArePieces, piece_view, text_of};
 ghost use Rattle.handlebars_rows.specs.declared.piece.Piece.{Piece};
 
-use crate::failure::RowFailure;
-use crate::fields;
+use crate::fields::Fields;
 use crate::piece::{Kind, Piece, PieceTemplate};
 use handlebars_template::template::TemplateMapping;
 use serde_json::Value as JsonValue;
@@ -13,11 +12,11 @@ use std::alloc::{AllocError, Global};
 use std::fmt;
 
 /// Whether these are the pieces that are wanted, if any are.
-pub fn are_wanted(pieces: &Vec<Piece>, wanted: &Option<Vec<Piece>>) -> bool
-    ensures { IsTrue result → ArePieces pieces.now.items wanted.now }
+pub fn are_wanted(pieces: &Vec<Piece>, wanted: Option<&[Piece]>) -> bool
+    ensures { IsTrue result → ArePieces pieces.now.items wanted.entry }
 {
     match wanted {
-        Some(wanted) => are_one(pieces.as_slice(), wanted.as_slice()),
+        Some(wanted) => are_one(pieces.as_slice(), wanted),
         None => true,
     }
 }
@@ -67,214 +66,85 @@ pub struct PiecesOf<'p>(pub &'p [Piece]);
 
 impl fmt::Display for PiecesOf<'_> {
     fn fmt<W: fmt::Write>(&self, f: &mut fmt::Formatter<W>) -> fmt::Result {
-        write!(f, "[")?;
+        f.write_str("[")?;
         for (index, piece) in self.0.iter().enumerate() {
             if index > 0 {
-                write!(f, ", ")?;
+                f.write_str(", ")?;
             }
             write!(f, "{piece}")?;
         }
-        write!(f, "]")
+        f.write_str("]")
     }
 }
 
-/// Sets the field to an array of pieces.
-pub fn set_pieces(
-    field: &mut Option<Vec<Piece>>,
-    alloc: Global,
-    name: String,
-    value: JsonValue,
-) -> Result<(), RowFailure> {
-    let JsonValue::Array(values) = value else {
-        return Err(RowFailure::Field(name, "is no array"));
-    };
-    *field = Some(read_pieces(alloc, values)?);
-    Ok(())
+/// The pieces that a row wants, if it does, whose fields were checked.
+pub fn read_pieces(alloc: Global, fields: Fields<'_>) -> Result<Option<Vec<Piece>>, AllocError> {
+    match fields.elements("pieces") {
+        Some(values) => Ok(Some(all_pieces(alloc, values)?)),
+        None => Ok(None),
+    }
 }
 
-fn read_pieces(alloc: Global, values: Vec<JsonValue>) -> Result<Vec<Piece>, RowFailure> {
+fn all_pieces(alloc: Global, values: &[JsonValue]) -> Result<Vec<Piece>, AllocError> {
     let mut pieces = Vec::new(alloc);
     for value in values {
-        pieces.push(read_piece(alloc, value)?)?;
+        if let Some(members) = value.as_object() {
+            pieces.push(read_piece(alloc, Fields(members))?)?;
+        }
     }
     Ok(pieces)
 }
 
-fn read_piece(alloc: Global, value: JsonValue) -> Result<Piece, RowFailure> {
-    let JsonValue::Object(members) = value else {
-        return Err(RowFailure::Fields("a piece is no object"));
-    };
-    let mut fields = Fields::default();
-    for (name, value) in members {
-        fields.take(alloc, name, value)?;
+fn read_piece(alloc: Global, fields: Fields<'_>) -> Result<Piece, AllocError> {
+    let mut piece = Piece::new(alloc, kind_of(fields), place_of(fields));
+    piece.text.push_str(fields.text("text").unwrap_or(""))?;
+    if fields.has("template") {
+        piece.template = PieceTemplate::Included(copied(alloc, fields.text("template"))?);
     }
-    fields.into_piece(alloc)
-}
-
-// The fields that a piece has.
-#[derive(Default)]
-struct Fields {
-    text: Option<String>,
-    kind: Option<Kind>,
-    template: Option<PieceTemplate>,
-    line: Option<usize>,
-    column: Option<usize>,
-    turns: Option<Vec<usize>>,
-    path: Option<Vec<String>>,
-}
-
-impl Drop for Fields {
-    fn drop(self) {
-        let Fields {
-            text: _,
-            kind: _,
-            template: _,
-            line: _,
-            column: _,
-            turns: _,
-            path: _,
-        } = self;
+    push_turns(&mut piece.turns, fields.elements("turns").unwrap_or(&[]))?;
+    if let Some(names) = fields.elements("path") {
+        piece.path = Some(path_of(alloc, names)?);
     }
+    Ok(piece)
 }
 
-impl Fields {
-    fn take(&mut self, alloc: Global, name: String, value: JsonValue) -> Result<(), RowFailure> {
-        match name.as_str() {
-            "text" => fields::set_text(&mut self.text, alloc, name, value),
-            "kind" => set_kind(&mut self.kind, name, &value),
-            "template" => set_template(&mut self.template, alloc, name, value),
-            "line" => fields::set_number(&mut self.line, name, &value),
-            "column" => fields::set_number(&mut self.column, name, &value),
-            "turns" => set_turns(&mut self.turns, alloc, name, value),
-            "path" => set_path(&mut self.path, alloc, name, value),
-            _ => Err(RowFailure::Field(name, "is no field of a piece")),
-        }
-    }
-
-    fn into_piece(self, alloc: Global) -> Result<Piece, RowFailure> {
-        let mut fields = self;
-        let text = fields
-            .text
-            .take()
-            .ok_or(RowFailure::Fields("a piece has no text"))?;
-        let kind = fields
-            .kind
-            .take()
-            .ok_or(RowFailure::Fields("a piece has no kind"))?;
-        let place = place_of(fields.line, fields.column)?;
-        Ok(fields.piece(alloc, text, kind, place))
-    }
-
-    fn piece(
-        self,
-        alloc: Global,
-        text: String,
-        kind: Kind,
-        place: Option<TemplateMapping>,
-    ) -> Piece {
-        let Fields {
-            text: _,
-            kind: _,
-            template,
-            line: _,
-            column: _,
-            turns,
-            path,
-        } = self;
-        Piece {
-            text,
-            kind,
-            template: template.unwrap_or(PieceTemplate::First),
-            place,
-            turns: turns.unwrap_or(Vec::new(alloc)),
-            path,
-        }
-    }
-}
-
-fn place_of(
-    line: Option<usize>,
-    column: Option<usize>,
-) -> Result<Option<TemplateMapping>, RowFailure> {
-    match (line, column) {
-        (Some(line), Some(column)) => Ok(Some(TemplateMapping(line, column))),
-        (None, None) => Ok(None),
-        _ => Err(RowFailure::Fields("a piece has a line or a column without the other")),
-    }
-}
-
-fn set_kind(field: &mut Option<Kind>, name: String, value: &JsonValue) -> Result<(), RowFailure> {
-    let Some(kind) = value.as_str().and_then(Kind::named) else {
-        return Err(RowFailure::Field(name, "is no kind of a piece"));
-    };
-    *field = Some(kind);
-    Ok(())
-}
-
-// The name of an included template, or null for an inline partial.
-fn set_template(
-    field: &mut Option<PieceTemplate>,
-    alloc: Global,
-    name: String,
-    value: JsonValue,
-) -> Result<(), RowFailure> {
-    *field = Some(match value {
-        JsonValue::Null => PieceTemplate::Included(None),
-        value => PieceTemplate::Included(Some(fields::text(alloc, name, value)?)),
-    });
-    Ok(())
-}
-
-fn set_turns(
-    field: &mut Option<Vec<usize>>,
-    alloc: Global,
-    name: String,
-    value: JsonValue,
-) -> Result<(), RowFailure> {
-    let JsonValue::Array(values) = value else {
-        return Err(RowFailure::Field(name, "is no array"));
-    };
-    let Some(turns) = numbers(alloc, values.as_slice())? else {
-        return Err(RowFailure::Field(name, "has an element that is no number from 0 on"));
-    };
-    *field = Some(turns);
-    Ok(())
-}
-
-fn numbers(alloc: Global, values: &[JsonValue]) -> Result<Option<Vec<usize>>, AllocError> {
-    let mut numbers = Vec::new(alloc);
+fn push_turns(turns: &mut Vec<usize>, values: &[JsonValue]) -> Result<(), AllocError> {
     for value in values {
-        match value.as_u64() {
-            Some(number) => numbers.push(number as usize)?,
-            None => return Ok(None),
-        }
+        turns.push(value.as_u64().unwrap_or(0) as usize)?;
     }
-    Ok(Some(numbers))
-}
-
-fn set_path(
-    field: &mut Option<Vec<String>>,
-    alloc: Global,
-    name: String,
-    value: JsonValue,
-) -> Result<(), RowFailure> {
-    let JsonValue::Array(values) = value else {
-        return Err(RowFailure::Field(name, "is no array"));
-    };
-    let Some(path) = texts(alloc, values)? else {
-        return Err(RowFailure::Field(name, "has an element that is no text"));
-    };
-    *field = Some(path);
     Ok(())
 }
 
-fn texts(alloc: Global, values: Vec<JsonValue>) -> Result<Option<Vec<String>>, AllocError> {
-    let mut texts = Vec::new(alloc);
-    for value in values {
-        match value {
-            JsonValue::String(text) => texts.push(text)?,
-            _ => return Ok(None),
-        }
+fn kind_of(fields: Fields<'_>) -> Kind {
+    match fields.text("kind") {
+        Some(name) => Kind::named(name).unwrap_or(Kind::TemplateText),
+        None => Kind::TemplateText,
     }
-    Ok(Some(texts))
+}
+
+fn place_of(fields: Fields<'_>) -> Option<TemplateMapping> {
+    Some(TemplateMapping(fields.number("line")?, fields.number("column")?))
+}
+
+fn copied(alloc: Global, name: Option<&str>) -> Result<Option<String>, AllocError> {
+    match name {
+        Some(name) => Ok(Some(String::from_str(alloc, name)?)),
+        None => Ok(None),
+    }
+}
+
+fn path_of(alloc: Global, names: &[JsonValue]) -> Result<Vec<String>, AllocError> {
+    let mut path = Vec::new(alloc);
+    for name in names {
+        path.push(String::from_str(alloc, name.as_str().unwrap_or(""))?)?;
+    }
+    Ok(path)
+}
+
+/// The pieces of a list, if there is one.
+pub fn pieces_in(pieces: &Option<Vec<Piece>>) -> Option<&[Piece]> {
+    match pieces {
+        Some(pieces) => Some(pieces.as_slice()),
+        None => None,
+    }
 }

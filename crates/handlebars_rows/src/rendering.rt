@@ -1,40 +1,28 @@
 //! Rows that render a template.
 
-use crate::failure::RowFailure;
-use crate::other::{Other, OtherFields, Shared};
-use crate::outcome::{Outcome, copied, refused};
+ghost use Rattle.std.specs.Prelude.{◌≡◌};
+ghost use Rattle.handlebars_rows.specs.Ways.{has_output, has_pieces, has_text, has_writer, is_meant, is_over};
+
+use crate::fault::Fault;
+use crate::fields::Fields;
 use crate::pen::Taking;
 use crate::piece::Piece;
-use crate::steps::Step;
-use crate::told::Wanted;
-use crate::{fields, kept, pen, pieces, steps};
+use crate::wanted::Wanted;
 use serde_json::{Map, Value as JsonValue};
-use std::alloc::{AllocError, Global};
 use std::fmt;
-use std::io::ErrorKind;
 
-/// What is rendered over what, and what is wanted of it.
-pub struct Rendering {
-    /// Names and sources, which are texts.
-    pub templates: Option<Map<String, JsonValue>>,
-    /// Names and built-in helpers, which are texts; a name with null has none.
-    pub helpers: Option<Map<String, JsonValue>>,
-    /// How values are escaped, where it is said.
-    pub escape: Option<Escape>,
-    /// Whether the mode is strict.
-    pub strict: bool,
-    /// Whether lookup is recursive.
-    pub recursive: bool,
-    /// Whether inclusions have no indentation.
-    pub prevent_indent: bool,
-    /// How many inclusions may be rendered in each other, where it is said.
-    pub limit: Option<u16>,
+/// What is rendered, in which ways, and what is wanted of it.
+#[derive(Clone, Copy)]
+pub struct Rendering<'r> {
+    /// All that the row says.
+    pub fields: Fields<'r>,
     /// Files and folders by path, which the reader has.
-    pub files: Option<Map<String, JsonValue>>,
+    pub files: Option<&'r Map<String, JsonValue>>,
     /// What is done before the rendering.
-    pub steps: Option<Vec<Step>>,
-    pub rendered: Rendered,
-    pub data: JsonValue,
+    pub steps: Option<&'r [JsonValue]>,
+    pub rendered: Rendered<'r>,
+    /// What it is rendered over, if not over null.
+    pub data: Option<&'r JsonValue>,
     /// Over what the calls render, if not over either.
     pub over: Option<Over>,
     /// What the writer takes, where there is one.
@@ -43,36 +31,16 @@ pub struct Rendering {
     pub sweep: bool,
     /// How many bytes the output takes, if not all.
     pub takes: Option<usize>,
-    /// The fault of the output when it takes no more.
-    pub fault: ErrorKind,
-    pub wanted: Wanted,
+    pub wanted: Wanted<'r>,
     /// The second run, over other data, where there is one.
-    pub other: Option<Other>,
+    pub other: Option<Other<'r>>,
 }
 
-impl Drop for Rendering {
-    fn drop(self) {
-        let Rendering {
-            templates: _,
-            helpers: _,
-            escape: _,
-            strict: _,
-            recursive: _,
-            prevent_indent: _,
-            limit: _,
-            files: _,
-            steps: _,
-            rendered: _,
-            data: _,
-            over: _,
-            to: _,
-            sweep: _,
-            takes: _,
-            fault: _,
-            wanted: _,
-            other: _,
-        } = self;
-    }
+/// What a row is rendered over once more, and what is wanted of that.
+#[derive(Clone, Copy)]
+pub struct Other<'r> {
+    pub data: &'r JsonValue,
+    pub wanted: Wanted<'r>,
 }
 
 /// How values are escaped.
@@ -82,6 +50,17 @@ pub enum Escape {
     Plain,
 }
 
+impl Escape {
+    /// The kind of escape that a text names.
+    pub fn read(value: &JsonValue) -> Option<Escape> {
+        match value.as_str()? {
+            "html" => Some(Escape::Html),
+            "plain" => Some(Escape::Plain),
+            _ => None,
+        }
+    }
+}
+
 /// What a call renders over: a context, or data that it converts.
 #[derive(Clone, Copy)]
 pub enum Over {
@@ -89,15 +68,26 @@ pub enum Over {
     Value,
 }
 
-/// What a row renders.
-#[derive(Drop)]
-pub enum Rendered {
-    Source(String),
-    /// The registered template of that name.
-    Name(String),
+impl Over {
+    /// What a text names.
+    pub fn read(value: &JsonValue) -> Option<Over> {
+        match value.as_str()? {
+            "context" => Some(Over::Context),
+            "value" => Some(Over::Value),
+            _ => None,
+        }
+    }
 }
 
-impl fmt::Display for Rendered {
+/// What a row renders.
+#[derive(Clone, Copy)]
+pub enum Rendered<'r> {
+    Source(&'r str),
+    /// The registered template of that name.
+    Name(&'r str),
+}
+
+impl fmt::Display for Rendered<'_> {
     fn fmt<W: fmt::Write>(&self, f: &mut fmt::Formatter<W>) -> fmt::Result {
         match self {
             Rendered::Source(source) => write!(f, "{source:?}"),
@@ -106,9 +96,23 @@ impl fmt::Display for Rendered {
     }
 }
 
-impl Rendering {
-    ghost use Rattle.std.specs.Prelude.{◌≡◌};
-    ghost use Rattle.handlebars_rows.specs.Ways.{has_output, has_pieces, has_text, has_writer, is_over};
+impl<'r> Rendering<'r> {
+    /// The row of fields that were checked, and of the pieces that they want.
+    pub fn of(fields: Fields<'r>, pieces: Option<&'r [Piece]>) -> Rendering<'r> {
+        Rendering {
+            fields,
+            files: fields.members("files"),
+            steps: fields.elements("steps"),
+            rendered: rendered_of(fields),
+            data: fields.get("data").or(fields.get("json")),
+            over: over_of(fields),
+            to: taking_of(fields),
+            sweep: fields.is_set("sweep"),
+            takes: fields.number("takes"),
+            wanted: Wanted::of_first(fields, pieces),
+            other: other_of(fields),
+        }
+    }
 
     /// Whether calls are asked for a text, and not to write.
     pub fn has_text(&self) -> bool
@@ -128,16 +132,11 @@ impl Rendering {
     pub fn is_over(&self, over: Over) -> bool
         ensures { result ≡ is_over over self.now }
     {
-        match self.over {
-            None => true,
-            Some(Over::Context) => match over {
-                Over::Context => true,
-                Over::Value => false,
-            },
-            Some(Over::Value) => match over {
-                Over::Context => false,
-                Over::Value => true,
-            },
+        match (self.over, over) {
+            (None, _) => true,
+            (Some(Over::Context), Over::Context) => true,
+            (Some(Over::Value), Over::Value) => true,
+            _ => false,
         }
     }
 
@@ -156,312 +155,34 @@ impl Rendering {
             && (self.steps.is_none() && (self.to.is_none() && self.is_over(Over::Context)))
     }
 
-    /// The row of an object's members.
-    pub fn read(alloc: Global, members: Map<String, JsonValue>) -> Result<Rendering, RowFailure> {
-        let mut fields = Fields::default();
-        for (name, value) in members {
-            fields.take(alloc, name, value)?;
-        }
-        fields.into_rendering(alloc)
-    }
-}
-
-// The fields that the object has.
-#[derive(Default)]
-struct Fields {
-    templates: Option<Map<String, JsonValue>>,
-    helpers: Option<Map<String, JsonValue>>,
-    escape: Option<Escape>,
-    strict: bool,
-    recursive: bool,
-    prevent_indent: bool,
-    limit: Option<u16>,
-    files: Option<Map<String, JsonValue>>,
-    steps: Option<Vec<Step>>,
-    source: Option<String>,
-    name: Option<String>,
-    data: Option<JsonValue>,
-    over: Option<Over>,
-    to: Option<Taking>,
-    sweep: bool,
-    takes: Option<usize>,
-    fault: Option<ErrorKind>,
-    text: Option<String>,
-    marks: Option<String>,
-    pieces: Option<Vec<Piece>>,
-    reason: Option<String>,
-    line: Option<usize>,
-    column: Option<usize>,
-    template: Option<String>,
-    printed: Option<String>,
-    logged: Option<Vec<JsonValue>>,
-    asked: Option<Vec<JsonValue>>,
-    other: OtherFields,
-}
-
-impl Drop for Fields {
-    fn drop(self) {
-        let Fields {
-            templates: _,
-            helpers: _,
-            escape: _,
-            strict: _,
-            recursive: _,
-            prevent_indent: _,
-            limit: _,
-            files: _,
-            steps: _,
-            source: _,
-            name: _,
-            data: _,
-            over: _,
-            to: _,
-            sweep: _,
-            takes: _,
-            fault: _,
-            text: _,
-            marks: _,
-            pieces: _,
-            reason: _,
-            line: _,
-            column: _,
-            template: _,
-            printed: _,
-            logged: _,
-            asked: _,
-            other: _,
-        } = self;
-    }
-}
-
-impl Fields {
-    fn take(&mut self, alloc: Global, name: String, value: JsonValue) -> Result<(), RowFailure> {
-        match name.as_str() {
-            "templates" => fields::set_texts(&mut self.templates, name, value),
-            "helpers" => fields::set_helpers(&mut self.helpers, name, value),
-            "escape" => fields::set_escape(&mut self.escape, name, &value),
-            "strict" => fields::set_boolean(&mut self.strict, name, &value),
-            "recursive" => fields::set_boolean(&mut self.recursive, name, &value),
-            "prevent_indent" => fields::set_boolean(&mut self.prevent_indent, name, &value),
-            "limit" => fields::set_limit(&mut self.limit, name, &value),
-            "files" => kept::set_files(&mut self.files, name, value),
-            "steps" => steps::set_steps(&mut self.steps, alloc, name, value),
-            _ => self.take_rendered(alloc, name, value),
-        }
-    }
-
-    fn take_rendered(
-        &mut self,
-        alloc: Global,
-        name: String,
-        value: JsonValue,
-    ) -> Result<(), RowFailure> {
-        match name.as_str() {
-            "source" => fields::set_text(&mut self.source, alloc, name, value),
-            "name" => fields::set_text(&mut self.name, alloc, name, value),
-            "data" => self.set_data(value),
-            "json" => self.set_json(alloc, name, value),
-            "over" => fields::set_over(&mut self.over, name, &value),
-            "to" => pen::set_taking(&mut self.to, name, &value),
-            "sweep" => fields::set_boolean(&mut self.sweep, name, &value),
-            "takes" => fields::set_number(&mut self.takes, name, &value),
-            "fault" => fields::set_fault(&mut self.fault, name, &value),
-            _ => self.take_wanted(alloc, name, value),
-        }
-    }
-
-    fn set_json(
-        &mut self,
-        alloc: Global,
-        name: String,
-        value: JsonValue,
-    ) -> Result<(), RowFailure> {
-        let value = fields::json(alloc, name, value)?;
-        self.set_data(value)
-    }
-
-    fn set_data(&mut self, value: JsonValue) -> Result<(), RowFailure> {
-        if self.data.is_some() {
-            return Err(RowFailure::Fields("both data and json"));
-        }
-        self.data = Some(value);
-        Ok(())
-    }
-
-    fn take_wanted(
-        &mut self,
-        alloc: Global,
-        name: String,
-        value: JsonValue,
-    ) -> Result<(), RowFailure> {
-        match name.as_str() {
-            "text" => fields::set_text(&mut self.text, alloc, name, value),
-            "marks" => fields::set_text(&mut self.marks, alloc, name, value),
-            "pieces" => pieces::set_pieces(&mut self.pieces, alloc, name, value),
-            "reason" => fields::set_text(&mut self.reason, alloc, name, value),
-            "line" => fields::set_number(&mut self.line, name, &value),
-            "column" => fields::set_number(&mut self.column, name, &value),
-            "template" => fields::set_text(&mut self.template, alloc, name, value),
-            "printed" => fields::set_text(&mut self.printed, alloc, name, value),
-            "logged" => fields::set_lines(&mut self.logged, name, value),
-            "asked" => fields::set_list(&mut self.asked, name, value),
-            _ => self.other.take(alloc, name, value),
-        }
-    }
-
-    // What only stands beside another field.
-    fn check(&self) -> Result<(), RowFailure> {
-        if self.reason.is_none() && self.printed.is_some() {
-            return Err(RowFailure::Fields("a printed text without a reason"));
-        }
-        if self.reason.is_none() && !self.other.has_reason() && self.has_place() {
-            return Err(RowFailure::Fields("a line, a column or a template without a reason"));
-        }
-        if self.takes.is_none() && self.fault.is_some() {
-            return Err(RowFailure::Fields("a fault without an output that takes so much"));
-        }
-        if self.takes.is_some() && self.is_for_calls() {
-            return Err(RowFailure::Fields("an output beside what the calls alone have"));
-        }
-        if self.sweep && self.to.is_some() {
-            return Err(RowFailure::Fields("a writer beside those of a sweep"));
-        }
-        if self.pieces.is_some() && !self.tells_pieces() {
-            return Err(RowFailure::Fields("pieces beside an output, a writer or a value"));
-        }
-        self.other.check()
-    }
-
-    fn is_for_calls(&self) -> bool {
-        self.files.is_some()
-            || self.steps.is_some()
-            || self.over.is_some()
-            || self.to.is_some()
-            || self.sweep
-    }
-
-    // Whether a call is asked that tells of pieces.
-    fn tells_pieces(&self) -> bool {
-        self.takes.is_none() && self.to.is_none() && is_for_context(self.over)
-    }
-
-    // Whether the place of a refusal is wanted.
-    fn has_place(&self) -> bool {
-        self.line.is_some() || self.column.is_some() || self.template.is_some()
-    }
-
-    // With steps, the empty source stands where none does, and renders to the empty text.
-    fn fill(&mut self, alloc: Global) {
-        if self.steps.is_some() && self.source.is_none() && self.name.is_none() {
-            self.source = Some(String::new(alloc));
-            if self.text.is_none() {
-                self.text = Some(String::new(alloc));
-            }
-        }
-    }
-
-    fn into_rendering(self, alloc: Global) -> Result<Rendering, RowFailure> {
-        let mut fields = self;
-        fields.check()?;
-        fields.fill(alloc);
-        let rendered = template_of(fields.source.take(), fields.name.take())?;
-        let text = fields
-            .text
-            .take()
-            .ok_or(RowFailure::Fields("the text is missing"))?;
-        let other = fields.take_other()?;
-        Ok(fields.rendering(rendered, text, other))
-    }
-
-    fn take_other(&mut self) -> Result<Option<Other>, AllocError> {
-        let shared = Shared {
-            reason: copied(self.reason.as_ref())?,
-            line: self.line,
-            column: self.column,
-            template: copied(self.template.as_ref())?,
-            marks: copied(self.marks.as_ref())?,
-        };
-        Ok(std::mem::take(&mut self.other).into_other(shared))
-    }
-
-    // Of fields that may stand together.
-    fn rendering(self, rendered: Rendered, text: String, other: Option<Other>) -> Rendering {
-        let Fields {
-            templates,
-            helpers,
-            escape,
-            strict,
-            recursive,
-            prevent_indent,
-            limit,
-            files,
-            steps,
-            source: _,
-            name: _,
-            data,
-            over,
-            to,
-            sweep,
-            takes,
-            fault,
-            text: _,
-            marks,
-            pieces,
-            reason,
-            line,
-            column,
-            template,
-            printed,
-            logged,
-            asked,
-            other: _,
-        } = self;
-        Rendering {
-            templates,
-            helpers,
-            escape,
-            strict,
-            recursive,
-            prevent_indent,
-            limit,
-            files,
-            steps,
-            rendered,
-            data: data.unwrap_or(JsonValue::Null),
-            over,
-            to,
-            sweep,
-            takes,
-            fault: fault.unwrap_or(ErrorKind::NotFound),
-            wanted: Wanted {
-                outcome: Outcome {
-                    text,
-                    refusal: refused(reason, line, column, template),
-                },
-                marks,
-                pieces,
-                printed,
-                logged,
-                asked,
-            },
-            other,
+    /// The fault of the output when it takes no more.
+    pub fn fault(&self) -> Fault {
+        match self.fields.get("fault") {
+            Some(value) => Fault::read(value).unwrap_or(Fault::NOT_FOUND),
+            None => Fault::NOT_FOUND,
         }
     }
 }
 
-// Whether calls over a context are asked.
-fn is_for_context(over: Option<Over>) -> bool {
-    match over {
-        None => true,
-        Some(Over::Context) => true,
-        Some(Over::Value) => false,
+// With steps, the empty source stands where none does.
+fn rendered_of(fields: Fields<'_>) -> Rendered<'_> {
+    match fields.text("name") {
+        Some(name) => Rendered::Name(name),
+        None => Rendered::Source(fields.text("source").unwrap_or("")),
     }
 }
 
-fn template_of(source: Option<String>, name: Option<String>) -> Result<Rendered, RowFailure> {
-    match (source, name) {
-        (Some(source), None) => Ok(Rendered::Source(source)),
-        (None, Some(name)) => Ok(Rendered::Name(name)),
-        _ => Err(RowFailure::Fields("either a source or a name is wanted")),
-    }
+fn over_of(fields: Fields<'_>) -> Option<Over> {
+    Over::read(fields.get("over")?)
+}
+
+fn taking_of(fields: Fields<'_>) -> Option<Taking> {
+    Taking::read(fields.get("to")?)
+}
+
+fn other_of(fields: Fields<'_>) -> Option<Other<'_>> {
+    Some(Other {
+        data: fields.get("other").or(fields.get("other_json"))?,
+        wanted: Wanted::of_second(fields),
+    })
 }

@@ -1,33 +1,34 @@
 //! What the calls that rows ask answer; those that expand a parameter make a registry of their own.
 
+use crate::calls::context;
+use crate::registered::Held;
 use handlebars::template::Parameter;
 use handlebars::{
     Context, Expand, JsonRender, JsonValue, PathAndJson, Registry, RenderContext, RenderError,
 };
-use handlebars_rows::call::{Asked, Call, TextCall};
-use handlebars_rows::reply::{Reply, told};
+use handlebars_rows::call::{Call, is_value_call};
+use handlebars_rows::reply::{KeptReply, told};
+use handlebars_rows::value_call::value_reply;
 use log::sink::Discard;
 use std::alloc::{AllocError, Global};
 
 /// What the call of a row answers.
-pub fn reply(alloc: Global, row: &Call) -> Result<Reply, AllocError> {
-    match &row.asked {
-        Asked::Text(call, text) => of_text(alloc, row, *call, text.as_str()),
-        Asked::Value(call, value) => call.reply(alloc, value),
+pub fn reply(alloc: Global, row: &Call<'_>) -> Result<KeptReply, AllocError> {
+    let null = JsonValue::Null;
+    match is_value_call(row.call) {
+        true => value_reply(alloc, row.call, row.of),
+        false => text_reply(alloc, row, row.data.unwrap_or(&null)),
     }
 }
 
-fn of_text(alloc: Global, row: &Call, call: TextCall, text: &str) -> Result<Reply, AllocError> {
-    match call {
-        TextCall::Part(part) => row.part_reply(alloc, part, text),
-        TextCall::Evaluate => told(alloc, evaluated(alloc, &row.data, text)),
-        TextCall::Expand => told(alloc, expanded(alloc, &row.data, text)),
-        TextCall::ExpandAsName => told(alloc, expanded_as_name(alloc, &row.data, text)),
+fn text_reply(alloc: Global, row: &Call<'_>, data: &JsonValue) -> Result<KeptReply, AllocError> {
+    let text = row.of.as_str().unwrap_or("");
+    match row.call {
+        "evaluate" => told(alloc, evaluated(alloc, data, text)),
+        "expand" => told(alloc, expanded(alloc, data, text, false)),
+        "expand_as_name" => told(alloc, expanded(alloc, data, text, true)),
+        _ => row.part_reply(alloc, data, text),
     }
-}
-
-fn context(data: &JsonValue) -> Result<Context, RenderError> {
-    Context::try_from(data.clone()?)
 }
 
 fn evaluated(alloc: Global, data: &JsonValue, path: &str) -> Result<String, RenderError> {
@@ -37,37 +38,40 @@ fn evaluated(alloc: Global, data: &JsonValue, path: &str) -> Result<String, Rend
     Ok(found.render(alloc)?)
 }
 
-fn expanded(alloc: Global, data: &JsonValue, text: &str) -> Result<String, RenderError> {
-    let parameter = Parameter::parse(alloc, text)?;
-    let data = context(data)?;
-    expanded_over(alloc, &parameter, &data)
-}
-
-fn expanded_as_name(alloc: Global, data: &JsonValue, text: &str) -> Result<String, RenderError> {
-    let parameter = Parameter::parse(alloc, text)?;
-    let data = context(data)?;
-    expanded_as_name_over(alloc, &parameter, &data)
-}
-
-fn expanded_over(
+fn expanded(
     alloc: Global,
+    data: &JsonValue,
+    text: &str,
+    as_name: bool,
+) -> Result<String, RenderError> {
+    let parameter = Parameter::parse(alloc, text)?;
+    let data = context(data)?;
+    let held = Held::new(alloc)?;
+    match as_name {
+        true => expanded_as_name(alloc, &held.registry, &parameter, &data),
+        false => expanded_as_value(alloc, &held.registry, &parameter, &data),
+    }
+}
+
+fn expanded_as_value(
+    alloc: Global,
+    registry: &Registry,
     parameter: &Parameter,
     data: &Context,
 ) -> Result<String, RenderError> {
-    let registry = Registry::new(alloc)?;
     let mut rc = RenderContext::new(alloc, None)?;
-    let value = parameter.expand(alloc, &registry, data, &mut rc, &Discard)?;
+    let value = parameter.expand(alloc, registry, data, &mut rc, &Discard)?;
     Ok(place_of(alloc, &value)?)
 }
 
-fn expanded_as_name_over(
+fn expanded_as_name(
     alloc: Global,
+    registry: &Registry,
     parameter: &Parameter,
     data: &Context,
 ) -> Result<String, RenderError> {
-    let registry = Registry::new(alloc)?;
     let mut rc = RenderContext::new(alloc, None)?;
-    let name = parameter.expand_as_name(alloc, &registry, data, &mut rc, &Discard)?;
+    let name = parameter.expand_as_name(alloc, registry, data, &mut rc, &Discard)?;
     Ok(String::from_str(alloc, name.as_str())?)
 }
 

@@ -41,14 +41,12 @@ impl PieceOutput for Keeper {
 }
 
 fn kept(alloc: Global, text: &str, origin: &Origin<'_>) -> Result<Piece, AllocError> {
-    Ok(Piece {
-        text: String::from_str(alloc, text)?,
-        kind: kind_of(origin.kind),
-        template: template_of(alloc, origin.spot.template)?,
-        place: origin.spot.place.copied(),
-        turns: origin.spot.turns.to_vec(alloc)?,
-        path: path_of(alloc, origin.path)?,
-    })
+    let mut piece = Piece::new(alloc, kind_of(origin.kind), origin.spot.place.copied());
+    piece.text.push_str(text)?;
+    piece.template = template_of(alloc, origin.spot.template)?;
+    piece.turns.extend_from_slice(origin.spot.turns)?;
+    piece.path = path_of(alloc, origin.path)?;
+    Ok(piece)
 }
 
 fn kind_of(kind: PieceKind) -> Kind {

@@ -9,10 +9,10 @@ mod calls;
 mod keeper;
 mod output;
 mod registered;
-mod row;
 mod run;
 mod shelf;
 mod sweep;
+mod ways;
 
 use run::run;
 use std::process::ExitCode;

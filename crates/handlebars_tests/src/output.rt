@@ -16,24 +16,37 @@ use std::alloc::Global;
 /// What the template of a row answers that is rendered over data to an output, and once more to another one.
 pub fn write_template(
     alloc: Global,
-    row: &Rendering,
+    row: &Rendering<'_>,
     data: &JsonValue,
     out: &mut Bounded,
     again: &mut Bounded,
     log: &Memory,
 ) -> Result<(), RenderError> {
-    let registry = registry_of(alloc, row, &mut Shelf::new(alloc))?;
+    let mut files = Shelf::new(alloc);
+    let held = registry_of(alloc, row, &mut files)?;
+    write_over_context(alloc, &held.registry, row, data, out, again, log)
+}
+
+fn write_over_context(
+    alloc: Global,
+    registry: &Registry,
+    row: &Rendering<'_>,
+    data: &JsonValue,
+    out: &mut Bounded,
+    again: &mut Bounded,
+    log: &Memory,
+) -> Result<(), RenderError> {
     let data = context(data)?;
-    match &row.rendered {
-        Rendered::Source(source) => write_source(alloc, &registry, source, &data, out, again, log),
-        Rendered::Name(name) => write_named(alloc, &registry, name, &data, out, again, log),
+    match row.rendered {
+        Rendered::Source(source) => write_source(alloc, registry, source, &data, out, again, log),
+        Rendered::Name(name) => write_named(alloc, registry, name, &data, out, again, log),
     }
 }
 
 fn write_source(
     alloc: Global,
     registry: &Registry,
-    source: &String,
+    source: &str,
     data: &Context,
     out: &mut Bounded,
     again: &mut Bounded,
@@ -43,22 +56,22 @@ fn write_source(
         name: None,
         prevent_indent: registry.prevent_indent(),
     };
-    let template = Template::compile2(alloc, source.as_str(), options)?;
+    let template = Template::compile2(alloc, source, options)?;
     write_tree(alloc, registry, &template, data, out, again, log)
 }
 
 fn write_named(
     alloc: Global,
     registry: &Registry,
-    name: &String,
+    name: &str,
     data: &Context,
     out: &mut Bounded,
     again: &mut Bounded,
     log: &Memory,
 ) -> Result<(), RenderError> {
-    match registry.get_template(name.as_str()) {
+    match registry.get_template(name) {
         Some(template) => write_tree(alloc, registry, template, data, out, again, log),
-        None => Err(RenderErrorReason::TemplateNotFound(name.clone()?).into()),
+        None => Err(RenderErrorReason::TemplateNotFound(String::from_str(alloc, name)?).into()),
     }
 }
 

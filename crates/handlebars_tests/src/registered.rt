@@ -5,45 +5,81 @@ use handlebars::{
     DirectorySourceOptions, EscapeKind, HelperEntry, JsonValue, Registry, RenderError,
     TemplateError,
 };
+use handlebars_rows::fields::Fields;
 use handlebars_rows::helpers::helper_named;
 use handlebars_rows::names::Names;
-use handlebars_rows::outcome::Refusal;
+use handlebars_rows::outcome::Refused;
 use handlebars_rows::rendering::{Escape, Rendering};
-use handlebars_rows::steps::{Came, Deed, Folder, Step};
+use handlebars_rows::shape::limit;
+use handlebars_rows::steps::StepCame;
 use serde_json::Map;
 use std::alloc::{AllocError, Global};
+
+/// A registry.
+pub struct Held {
+    pub registry: Registry,
+}
+
+impl Drop for Held {
+    fn drop(self) {
+        let Held { registry: _ } = self;
+    }
+}
+
+impl Held {
+    /// With nothing registered yet.
+    pub fn new(alloc: Global) -> Result<Held, AllocError> {
+        Ok(Held {
+            registry: Registry::new(alloc)?,
+        })
+    }
+}
 
 /// What the row registers, in byte order of name: helpers, then templates; then its steps. A template that doesn't
 /// compile refuses the row, and so does a step that comes to something else than is wanted, with a refusal that no row
 /// wants.
 pub fn registry_of(
     alloc: Global,
-    row: &Rendering,
+    row: &Rendering<'_>,
     files: &mut Shelf,
-) -> Result<Registry, RenderError> {
-    let mut registry = Registry::new(alloc)?;
-    if let Some(helpers) = &row.helpers {
-        register_helpers(&mut registry, helpers)?;
+) -> Result<Held, RenderError> {
+    let mut held = Held::new(alloc)?;
+    register(alloc, &mut held.registry, row, files)?;
+    Ok(held)
+}
+
+fn register(
+    alloc: Global,
+    registry: &mut Registry,
+    row: &Rendering<'_>,
+    files: &mut Shelf,
+) -> Result<(), RenderError> {
+    set_modes(registry, row.fields);
+    if let Some(helpers) = row.fields.members("helpers") {
+        register_helpers(registry, helpers)?;
     }
-    if let Some(escape) = row.escape {
-        register_escape(&mut registry, escape);
+    if let Some(templates) = row.fields.members("templates") {
+        register_templates(registry, templates)?;
     }
-    registry.set_strict_mode(row.strict);
-    registry.set_recursive_lookup(row.recursive);
-    registry.set_prevent_indent(row.prevent_indent);
-    if let Some(limit) = row.limit {
-        registry.set_inclusion_limit(limit);
-    }
-    if let Some(templates) = &row.templates {
-        register_templates(&mut registry, templates)?;
-    }
-    if let Some(kept) = &row.files {
+    if let Some(kept) = row.files {
         files.put(kept)?;
     }
-    if let Some(steps) = &row.steps {
-        take_steps(alloc, &mut registry, steps.as_slice(), files)?;
+    match row.steps {
+        Some(steps) => take_steps(alloc, registry, steps, files),
+        None => Ok(()),
     }
-    Ok(registry)
+}
+
+fn set_modes(registry: &mut Registry, fields: Fields<'_>) {
+    if let Some(value) = fields.get("escape") {
+        register_escape(registry, value);
+    }
+    registry.set_strict_mode(fields.is_set("strict"));
+    registry.set_recursive_lookup(fields.is_set("recursive"));
+    registry.set_prevent_indent(fields.is_set("prevent_indent"));
+    if let Some(limit) = fields.get("limit").and_then(limit) {
+        registry.set_inclusion_limit(limit);
+    }
 }
 
 // A name with no helper loses the one that it has.
@@ -61,11 +97,11 @@ fn register_helpers(
 }
 
 // `Html` is registered behind `Plain`, in the place of it.
-fn register_escape(registry: &mut Registry, escape: Escape) {
+fn register_escape(registry: &mut Registry, value: &JsonValue) {
     registry.register_escape_fn(EscapeKind::Plain);
-    match escape {
-        Escape::Html => registry.register_escape_fn(EscapeKind::Html),
-        Escape::Plain => {}
+    match Escape::read(value) {
+        Some(Escape::Html) => registry.register_escape_fn(EscapeKind::Html),
+        _ => {}
     }
 }
 
@@ -83,37 +119,51 @@ fn register_templates(
 fn take_steps(
     alloc: Global,
     registry: &mut Registry,
-    steps: &[Step],
+    steps: &[JsonValue],
     files: &mut Shelf,
 ) -> Result<(), RenderError> {
     for (index, step) in steps.iter().enumerate() {
-        let came = take_step(alloc, registry, step, files)?;
-        if !came.is_wanted(&step.wanted) {
-            return Err(otherwise(alloc, index.saturating_add(1), &came));
+        if let Some(members) = step.as_object() {
+            let number = index.saturating_add(1);
+            take_step(alloc, registry, Fields(members), number, files)?;
         }
     }
     Ok(())
 }
 
-fn otherwise(alloc: Global, number: usize, came: &Came) -> RenderError {
+fn take_step(
+    alloc: Global,
+    registry: &mut Registry,
+    fields: Fields<'_>,
+    number: usize,
+    files: &mut Shelf,
+) -> Result<(), RenderError> {
+    let came = came(alloc, registry, fields, files)?;
+    match came.is_wanted(fields) {
+        true => Ok(()),
+        false => Err(otherwise(alloc, number, &came)),
+    }
+}
+
+fn otherwise(alloc: Global, number: usize, came: &StepCame) -> RenderError {
     match format!(in alloc; "step {number}: {came}") {
         Ok(text) => RenderError::new(alloc, text.as_str()),
         Err(AllocError) => RenderError::new(alloc, "a step"),
     }
 }
 
-fn take_step(
+fn came(
     alloc: Global,
     registry: &mut Registry,
-    step: &Step,
+    fields: Fields<'_>,
     files: &mut Shelf,
-) -> Result<Came, AllocError> {
-    let refusal = match taken(registry, &step.deed, files) {
+) -> Result<StepCame, AllocError> {
+    let refusal = match taken(registry, fields, files) {
         Ok(()) => None,
-        Err(error) => Some(Refusal::of_template(alloc, &error)?),
+        Err(error) => Some(Refused::of_template(alloc, &error)?),
     };
     let names = names_in(alloc, registry)?;
-    Ok(Came {
+    Ok(StepCame {
         refusal,
         asked: files.take_asked(),
         names,
@@ -128,26 +178,38 @@ fn names_in(alloc: Global, registry: &Registry) -> Result<Names, AllocError> {
     Ok(names)
 }
 
-fn taken(registry: &mut Registry, deed: &Deed, files: &mut Shelf) -> Result<(), TemplateError> {
-    match deed {
-        Deed::Register(sources) => register_templates(registry, sources),
-        Deed::File(paths) => register_files(registry, paths, files),
-        Deed::Folder(folder) => {
-            registry.register_templates_directory(folder.path.as_str(), options(folder), files)
-        }
-        Deed::Unregister(name) => {
-            registry.unregister_template(name.as_str());
-            Ok(())
-        }
-        Deed::Clear => {
-            registry.clear_templates();
-            Ok(())
-        }
-        Deed::Dev(enabled) => {
-            registry.set_dev_mode(*enabled);
-            Ok(())
-        }
-        Deed::Files(kept) => Ok(files.put(kept)?),
+// What the step does: its fields have one deed.
+fn taken(
+    registry: &mut Registry,
+    fields: Fields<'_>,
+    files: &mut Shelf,
+) -> Result<(), TemplateError> {
+    if let Some(sources) = fields.members("register") {
+        return register_templates(registry, sources);
+    }
+    if let Some(paths) = fields.members("file") {
+        return register_files(registry, paths, files);
+    }
+    if let Some(path) = fields.text("folder") {
+        return registry.register_templates_directory(path, options(fields), files);
+    }
+    if let Some(kept) = fields.members("files") {
+        files.put(kept)?;
+    }
+    change(registry, fields);
+    Ok(())
+}
+
+// A deed that nothing refuses.
+fn change(registry: &mut Registry, fields: Fields<'_>) {
+    if let Some(name) = fields.text("unregister") {
+        registry.unregister_template(name);
+    }
+    if fields.is_set("clear") {
+        registry.clear_templates();
+    }
+    if fields.has("dev") {
+        registry.set_dev_mode(fields.is_set("dev"));
     }
 }
 
@@ -163,14 +225,11 @@ fn register_files(
 }
 
 // The default's, but for what the row says.
-fn options(folder: &Folder) -> DirectorySourceOptions<'_> {
+fn options(fields: Fields<'_>) -> DirectorySourceOptions<'_> {
     let default = DirectorySourceOptions::default();
     DirectorySourceOptions {
-        tpl_extension: match &folder.extension {
-            Some(extension) => extension.as_str(),
-            None => default.tpl_extension,
-        },
-        hidden: folder.hidden,
-        temporary: folder.temporary,
+        tpl_extension: fields.text("extension").unwrap_or(default.tpl_extension),
+        hidden: fields.is_set("hidden"),
+        temporary: fields.is_set("temporary"),
     }
 }

@@ -1,15 +1,17 @@
 //! A run of the program.
 
-use crate::answers::Answers;
+use crate::answers::{Answers, Shown};
 use crate::asked::reply;
-use crate::row::{Row, rows};
+use handlebars::JsonValue;
 use handlebars_rows::call::Call;
+use handlebars_rows::check::check_row;
 use handlebars_rows::failure::Failure;
+use handlebars_rows::fields::Fields;
 use handlebars_rows::files::{file_paths, words};
+use handlebars_rows::pieces::{pieces_in, read_pieces};
 use handlebars_rows::rendering::Rendering;
-use handlebars_rows::reply::Reply;
 use std::alloc::{AllocError, Global};
-use std::fmt;
+use std::fs;
 use std::rt::{Env, Files};
 
 /// Runs the files of the words, and answers whether all of their rows come to what is wanted.
@@ -46,85 +48,115 @@ fn told<R: Eprint>(rt: &R, path: &str, passed: Result<bool, Failure>) -> bool {
 }
 
 fn run_file<R: Files + Print + AllocGlobal>(rt: &R, path: &str) -> Result<bool, Failure> {
-    let rows = rows(rt, path)?;
-    let count = rows.len();
-    let differences = differences(rt.alloc(), rows)?;
-    let differing = differences.len();
-    println!(rt; "{path}: {differing} of {count} rows differ").map_err(Failure::CannotWrite)?;
-    for difference in &differences {
-        println!(rt; "{difference}").map_err(Failure::CannotWrite)?;
+    let text = fs::read_to_string(rt, path).map_err(Failure::CannotRead)?;
+    let mut value = JsonValue::from_str(rt.alloc(), text.as_str()).map_err(Failure::NotJson)?;
+    check_rows(rt.alloc(), &mut value)?;
+    match value.as_array() {
+        Some(rows) => run_rows(rt, path, rows.as_slice()),
+        None => Err(Failure::NoArray),
     }
-    Ok(differences.is_empty())
 }
 
-// A row that comes to something else than what is wanted, and its number in its file, from 1.
-#[derive(Drop)]
-struct Difference {
-    number: usize,
-    row: Row,
-    answer: Answered,
-}
-
-// What a row comes to.
-#[derive(Drop)]
-enum Answered {
-    Rendering(Answers),
-    Call(Reply),
-}
-
-impl Answered {
-    // What the row comes to, if that isn't what it wants.
-    fn otherwise(alloc: Global, row: &Row) -> Result<Option<Answered>, AllocError> {
-        match row {
-            Row::Rendering(rendering) => of_rendering(alloc, rendering),
-            Row::Call(call) => of_call(alloc, call),
+fn check_rows(alloc: Global, value: &mut JsonValue) -> Result<(), Failure> {
+    let Some(rows) = value.as_array_mut() else {
+        return Ok(());
+    };
+    for (index, row) in rows.iter_mut().enumerate() {
+        if let Err(cause) = check_row(alloc, row) {
+            return Err(Failure::NoRow(index.saturating_add(1), cause));
         }
     }
+    Ok(())
 }
 
-fn of_rendering(alloc: Global, row: &Rendering) -> Result<Option<Answered>, AllocError> {
+fn run_rows<R: Print + AllocGlobal>(
+    rt: &R,
+    path: &str,
+    rows: &[JsonValue],
+) -> Result<bool, Failure> {
+    let mut shown = String::new(rt.alloc());
+    let differing = show_differences(rt.alloc(), rows, &mut shown)?;
+    let count = rows.len();
+    println!(rt; "{path}: {differing} of {count} rows differ{shown}").map_err(
+        Failure::CannotWrite,
+    )?;
+    Ok(differing == 0)
+}
+
+// How many rows differ, and what is to be printed of them.
+fn show_differences(
+    alloc: Global,
+    rows: &[JsonValue],
+    shown: &mut String,
+) -> Result<u64, AllocError> {
+    let mut differing: u64 = 0;
+    for (index, row) in rows.iter().enumerate() {
+        if let Some(members) = row.as_object() {
+            let before = shown.len();
+            show_difference(alloc, index.saturating_add(1), Fields(members), shown)?;
+            if shown.len() > before {
+                differing = differing.saturating_add(1);
+            }
+        }
+    }
+    Ok(differing)
+}
+
+// Prints nothing of a row that comes to what it wants.
+fn show_difference(
+    alloc: Global,
+    number: usize,
+    fields: Fields<'_>,
+    shown: &mut String,
+) -> Result<(), AllocError> {
+    match Call::of(fields) {
+        Some(call) => show_call(alloc, number, &call, shown),
+        None => show_rendering(alloc, number, fields, shown),
+    }
+}
+
+fn show_rendering(
+    alloc: Global,
+    number: usize,
+    fields: Fields<'_>,
+    shown: &mut String,
+) -> Result<(), AllocError> {
+    let pieces = read_pieces(alloc, fields)?;
+    let row = Rendering::of(Fields(&*fields.0), pieces_in(&pieces));
+    show_row(alloc, number, &row, shown)
+}
+
+fn show_row(
+    alloc: Global,
+    number: usize,
+    row: &Rendering<'_>,
+    shown: &mut String,
+) -> Result<(), AllocError> {
     let answers = Answers::of(alloc, row)?;
     if answers.come_to(row) {
-        return Ok(None);
+        return Ok(());
     }
-    Ok(Some(Answered::Rendering(answers)))
+    let rendered = row.rendered;
+    write!(
+        shown,
+        "\n  row {number}: {rendered}\n{}",
+        Shown(&answers, &*row)
+    )
 }
 
-fn of_call(alloc: Global, call: &Call) -> Result<Option<Answered>, AllocError> {
+fn show_call(
+    alloc: Global,
+    number: usize,
+    call: &Call<'_>,
+    shown: &mut String,
+) -> Result<(), AllocError> {
     let reply = reply(alloc, call)?;
-    if reply.equals(&call.wanted) {
-        return Ok(None);
+    let (reply, wanted) = (reply.reply(), &call.wanted);
+    if reply.equals(wanted) {
+        return Ok(());
     }
-    Ok(Some(Answered::Call(reply)))
-}
-
-fn differences(alloc: Global, rows: Vec<Row>) -> Result<Vec<Difference>, AllocError> {
-    let mut differences = Vec::new(alloc);
-    for (index, row) in rows.into_iter().enumerate() {
-        if let Some(answer) = Answered::otherwise(alloc, &row)? {
-            let number = index.saturating_add(1);
-            differences.push(Difference {
-                number,
-                row,
-                answer,
-            })?;
-        }
-    }
-    Ok(differences)
-}
-
-impl fmt::Display for Difference {
-    fn fmt<W: fmt::Write>(&self, f: &mut fmt::Formatter<W>) -> fmt::Result {
-        let number = self.number;
-        let row = &self.row;
-        writeln!(f, "  row {number}: {row}")?;
-        match (row, &self.answer) {
-            (Row::Rendering(row), Answered::Rendering(answers)) => answers.show(f, row),
-            (Row::Call(call), Answered::Call(reply)) => {
-                let wanted = &call.wanted;
-                write!(f, "    wanted:   {wanted}\n    answered: {reply}")
-            }
-            _ => Ok(()),
-        }
-    }
+    write!(
+        shown,
+        "\n  row {number}: {call}\n    wanted:   {wanted}\n    answered: {reply}"
+    )
 }

@@ -53,7 +53,7 @@ impl TemplateReader for Shelf {
         self.asked.push(path, "")?;
         match self.files.get(path).and_then(Kept::of) {
             Some(Kept::Text(text)) => Ok(String::from_str(self.alloc, text)?),
-            Some(Kept::Fault(kind)) => Err(io::Error::from(kind)),
+            Some(Kept::Fault(fault)) => Err(io::Error::from(fault.kind())),
             _ => Err(io::Error::from(ErrorKind::NotFound)),
         }
     }
@@ -62,7 +62,7 @@ impl TemplateReader for Shelf {
         self.asked.push(folder, "/")?;
         match self.files.get(folder).and_then(Kept::of) {
             Some(Kept::Entries(entries)) => Ok(listed(self.alloc, entries)?),
-            Some(Kept::Fault(kind)) => Err(io::Error::from(kind)),
+            Some(Kept::Fault(fault)) => Err(io::Error::from(fault.kind())),
             _ => Err(io::Error::from(ErrorKind::NotFound)),
         }
     }

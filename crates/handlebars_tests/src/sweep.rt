@@ -4,13 +4,13 @@ ghost use Rattle.std.specs.Prelude.{◌≡◌, IfOk, false, is_none, true};
 
 use crate::calls;
 use crate::shelf::Shelf;
-use handlebars::{RenderError, RenderErrorReason};
+use handlebars::{JsonValue, RenderError, RenderErrorReason};
+use handlebars_rows::fault::Fault;
 use handlebars_rows::pen::{Pen, Taking};
 use handlebars_rows::rendering::{Over, Rendering};
 use log::sink::Memory;
 use std::alloc::{AllocError, Global};
 use std::fmt;
-use std::io::ErrorKind;
 
 /// A writer that comes to something else than is to stand then.
 #[derive(Clone, Copy)]
@@ -20,10 +20,10 @@ pub struct Swept {
 }
 
 /// How a write fails: by an error, which may be an interruption or want of memory, or by a count of 0.
-const FAULTS: [Option<ErrorKind>; 4] = [
-    Some(ErrorKind::BrokenPipe),
-    Some(ErrorKind::Interrupted),
-    Some(ErrorKind::OutOfMemory),
+const FAULTS: [Option<Fault>; 4] = [
+    Some(Fault::BROKEN_PIPE),
+    Some(Fault::INTERRUPTED),
+    Some(Fault::OUT_OF_MEMORY),
     None,
 ];
 
@@ -31,7 +31,7 @@ const FAULTS: [Option<ErrorKind>; 4] = [
 /// of these to one for each write that a rendering reaches, and for each way in which that write may fail. What was taken
 /// before it is to stand, and a beginning of the row's text; the writer isn't asked again; and the error is the fault.
 /// Answers the first writer with which it is otherwise.
-pub fn sweep(alloc: Global, row: &Rendering) -> Result<Option<Swept>, AllocError>
+pub fn sweep(alloc: Global, row: &Rendering<'_>) -> Result<Option<Swept>, AllocError>
     ensures { row.now.sweep ≡ false → IfOk result (λ swept. is_none swept ≡ true) }
 {
     if !row.sweep {
@@ -50,7 +50,7 @@ pub fn sweep(alloc: Global, row: &Rendering) -> Result<Option<Swept>, AllocError
 
 fn sweep_writes(
     alloc: Global,
-    row: &Rendering,
+    row: &Rendering<'_>,
     over: Over,
     most: usize,
 ) -> Result<Option<Swept>, AllocError> {
@@ -73,7 +73,7 @@ fn sweep_writes(
 }
 
 // How many writes a rendering has that comes to its text.
-fn whole_writes(alloc: Global, row: &Rendering, over: Over, taking: Taking) -> Option<u64> {
+fn whole_writes(alloc: Global, row: &Rendering<'_>, over: Over, taking: Taking) -> Option<u64> {
     let mut pen = Pen::new(alloc, taking);
     let answer = written(alloc, row, over, &mut pen);
     match answer.is_ok() && pen.taken() == row.wanted.outcome.text.as_bytes() {
@@ -82,7 +82,7 @@ fn whole_writes(alloc: Global, row: &Rendering, over: Over, taking: Taking) -> O
     }
 }
 
-fn stands(alloc: Global, row: &Rendering, over: Over, taking: Taking) -> bool {
+fn stands(alloc: Global, row: &Rendering<'_>, over: Over, taking: Taking) -> bool {
     let mut pen = Pen::new(alloc, taking);
     let answer = written(alloc, row, over, &mut pen);
     let whole = row.wanted.outcome.text.as_bytes();
@@ -91,24 +91,39 @@ fn stands(alloc: Global, row: &Rendering, over: Over, taking: Taking) -> bool {
         && is_fault(&answer, taking.fault)
 }
 
-fn written(alloc: Global, row: &Rendering, over: Over, pen: &mut Pen) -> Result<(), RenderError> {
-    let log = Memory::new(alloc);
+fn written(
+    alloc: Global,
+    row: &Rendering<'_>,
+    over: Over,
+    pen: &mut Pen,
+) -> Result<(), RenderError> {
+    let (null, log) = (JsonValue::Null, Memory::new(alloc));
     let mut files = Shelf::new(alloc);
-    calls::write(alloc, row, &row.data, over, pen, &log, &mut files)
+    calls::write(
+        alloc,
+        row,
+        row.data.unwrap_or(&null),
+        over,
+        pen,
+        &log,
+        &mut files,
+    )
 }
 
 // Whether the error is this fault, at a place.
-fn is_fault(answer: &Result<(), RenderError>, fault: Option<ErrorKind>) -> bool {
+fn is_fault(answer: &Result<(), RenderError>, fault: Option<Fault>) -> bool {
     let Err(error) = answer else {
         return false;
     };
-    error.line_no.is_some() && is_reason(error.reason(), fault.unwrap_or(ErrorKind::WriteZero))
+    error.line_no.is_some() && is_reason(error.reason(), fault.unwrap_or(Fault::WRITE_ZERO))
 }
 
-fn is_reason(reason: &RenderErrorReason, kind: ErrorKind) -> bool {
+fn is_reason(reason: &RenderErrorReason, fault: Fault) -> bool {
     match reason {
-        RenderErrorReason::OutOfMemory => kind == ErrorKind::OutOfMemory,
-        RenderErrorReason::IOError(cause) => cause.kind() == kind && kind != ErrorKind::OutOfMemory,
+        RenderErrorReason::OutOfMemory => fault == Fault::OUT_OF_MEMORY,
+        RenderErrorReason::IOError(cause) => {
+            cause.kind() == fault.kind() && fault != Fault::OUT_OF_MEMORY
+        }
         _ => false,
     }
 }
@@ -123,7 +138,9 @@ impl fmt::Display for Swept {
         write!(f, "sweep: {over} with at most {most} bytes a write")?;
         match (fails, fault) {
             (None, _) => write!(f, " differs"),
-            (Some(fails), Some(kind)) => write!(f, " differs where write {fails} fails: {kind}"),
+            (Some(fails), Some(fault)) => {
+                write!(f, " differs where write {fails} fails: {}", fault.kind())
+            }
             (Some(fails), None) => write!(f, " differs where write {fails} takes nothing"),
         }
     }
