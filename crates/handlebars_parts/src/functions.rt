@@ -10,7 +10,7 @@ ghost use Rattle.handlebars_helpers.specs.OwnView.{steps_of};
 ghost use Rattle.handlebars_helpers.specs.View.{helper_view};
 ghost use Rattle.handlebars_parts.specs.Parts.{shown_at};
 
-use crate::helpers::shown;
+use crate::helpers::push_shown;
 use handlebars::{DecoratorStep, FnDeeds, FnSteps, Helper, HelperStep};
 use std::alloc::Global;
 
@@ -21,7 +21,7 @@ pub fn said(alloc: Global, text: &str, h: &Helper) -> FnSteps
         (λ e. refused_for e ≡ out_of_memory) }
 {
     let mut said = String::from_str(alloc, text)?;
-    said.push_str(shown(alloc, h, 0)?.as_str())?;
+    push_shown(&mut said, alloc, h, 0)?;
     Ok(Some(vec![in alloc; HelperStep::Write(said)]?))
 }
 

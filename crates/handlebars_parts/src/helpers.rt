@@ -1,11 +1,10 @@
 //! Helpers of a caller's own. Each states what it answers, and that this is one answer.
 
-ghost use Rattle.std.specs.Prelude.{◌≡◌, ◌++◌, ◌∷◌, [], IfOk, None, Some, string_bytes};
+ghost use Rattle.std.specs.Prelude.{◌≡◌, ◌++◌, ◌∷◌, [], IfOk, OnOk, Some, string_bytes};
 ghost use Rattle.std.proofs.Common.{sym, ◌∙◌};
-ghost use Rattle.serde_json.specs.Data.{string};
 ghost use Rattle.serde_json.specs.View.{view};
 ghost use Rattle.handlebars_base.specs.Answers.{gives};
-ghost use Rattle.handlebars_helpers.specs.Own.{not_offered, offers, offers_missing};
+ghost use Rattle.handlebars_helpers.specs.Own.{not_offered, offers_missing};
 ghost use Rattle.handlebars_helpers.specs.Own.{renders_body, renders_body_in, renders_inverse, writes};
 ghost use Rattle.handlebars_helpers.specs.View.{helper_view};
 ghost use Rattle.handlebars_scope.specs.ScopeView.{frame_of};
@@ -47,152 +46,6 @@ impl HelperDef for Twice {
         _strict: bool,
     ) -> HelperResult {
         Ok(Some(vec![in self.alloc; HelperStep::Body, HelperStep::Body]?))
-    }
-
-    ghost one_steps = { λ h q a b i j. ∣ i ∙ sym j ∣₁ };
-
-    ghost one_offer = { λ h q a b i j. ∣ i ∙ sym j ∣₁ };
-}
-
-/// Writes a text, and renders its inverse.
-#[derive(Drop)]
-pub struct Marked {
-    pub alloc: Global,
-    pub text: String,
-}
-
-impl HelperDef for Marked {
-    ghost has_steps = { λ h q a. a ≡ gives (Some (writes (string_bytes h.text) ∷ renders_inverse ∷ [])) };
-
-    ghost has_offer = { λ h q a. a ≡ gives not_offered };
-
-    fn call_inner(
-        &self,
-        _h: &Helper,
-        _data: &Context,
-        _changed: Option<&Context>,
-        _strict: bool,
-    ) -> Result<HelperValue, RenderError> {
-        Ok(HelperValue::NotOffered)
-    }
-
-    fn call(
-        &self,
-        _h: &Helper,
-        _data: &Context,
-        _changed: Option<&Context>,
-        _strict: bool,
-    ) -> HelperResult {
-        let text = self.text.clone()?;
-        Ok(Some(vec![in self.alloc; HelperStep::Write(text), HelperStep::Inverse]?))
-    }
-
-    ghost one_steps = { λ h q a b i j. ∣ i ∙ sym j ∣₁ };
-
-    ghost one_offer = { λ h q a b i j. ∣ i ∙ sym j ∣₁ };
-}
-
-/// Has no steps, and offers its text as a value.
-#[derive(Drop)]
-pub struct Offered {
-    pub text: String,
-}
-
-impl HelperDef for Offered {
-    ghost has_steps = { λ h q a. a ≡ gives None };
-
-    ghost has_offer = { λ h q a. a ≡ gives (offers (string (string_bytes h.text))) };
-
-    fn call_inner(
-        &self,
-        _h: &Helper,
-        _data: &Context,
-        _changed: Option<&Context>,
-        _strict: bool,
-    ) -> Result<HelperValue, RenderError> {
-        Ok(HelperValue::Value(JsonValue::String(self.text.clone()?)))
-    }
-
-    fn call(
-        &self,
-        _h: &Helper,
-        _data: &Context,
-        _changed: Option<&Context>,
-        _strict: bool,
-    ) -> HelperResult {
-        Ok(None)
-    }
-
-    ghost one_steps = { λ h q a b i j. ∣ i ∙ sym j ∣₁ };
-
-    ghost one_offer = { λ h q a b i j. ∣ i ∙ sym j ∣₁ };
-}
-
-/// Has no steps, and no value.
-#[derive(Drop)]
-pub struct Absent {
-    pub alloc: Global,
-}
-
-impl HelperDef for Absent {
-    ghost has_steps = { λ h q a. a ≡ gives None };
-
-    ghost has_offer = { λ h q a. a ≡ gives offers_missing };
-
-    fn call_inner(
-        &self,
-        _h: &Helper,
-        _data: &Context,
-        _changed: Option<&Context>,
-        _strict: bool,
-    ) -> Result<HelperValue, RenderError> {
-        Ok(HelperValue::Missing)
-    }
-
-    fn call(
-        &self,
-        _h: &Helper,
-        _data: &Context,
-        _changed: Option<&Context>,
-        _strict: bool,
-    ) -> HelperResult {
-        Ok(None)
-    }
-
-    ghost one_steps = { λ h q a b i j. ∣ i ∙ sym j ∣₁ };
-
-    ghost one_offer = { λ h q a b i j. ∣ i ∙ sym j ∣₁ };
-}
-
-/// Does nothing: it has steps, and there are none.
-#[derive(Drop)]
-pub struct Silent {
-    pub alloc: Global,
-}
-
-impl HelperDef for Silent {
-    ghost has_steps = { λ h q a. a ≡ gives (Some []) };
-
-    ghost has_offer = { λ h q a. a ≡ gives not_offered };
-
-    fn call_inner(
-        &self,
-        _h: &Helper,
-        _data: &Context,
-        _changed: Option<&Context>,
-        _strict: bool,
-    ) -> Result<HelperValue, RenderError> {
-        Ok(HelperValue::NotOffered)
-    }
-
-    fn call(
-        &self,
-        _h: &Helper,
-        _data: &Context,
-        _changed: Option<&Context>,
-        _strict: bool,
-    ) -> HelperResult {
-        Ok(Some(Vec::new(self.alloc)))
     }
 
     ghost one_steps = { λ h q a b i j. ∣ i ∙ sym j ∣₁ };
@@ -257,81 +110,6 @@ impl HelperDef for Stepping {
     ghost one_offer = { λ h q a b i j. ∣ i ∙ sym j ∣₁ };
 }
 
-/// Has no steps, and offers its value, whatever it is.
-#[derive(Drop)]
-pub struct Valued {
-    pub value: JsonValue,
-}
-
-impl HelperDef for Valued {
-    ghost has_steps = { λ h q a. a ≡ gives None };
-
-    ghost has_offer = { λ h q a. a ≡ gives (offers (view h.value)) };
-
-    fn call_inner(
-        &self,
-        _h: &Helper,
-        _data: &Context,
-        _changed: Option<&Context>,
-        _strict: bool,
-    ) -> Result<HelperValue, RenderError> {
-        Ok(HelperValue::Value(self.value.clone()?))
-    }
-
-    fn call(
-        &self,
-        _h: &Helper,
-        _data: &Context,
-        _changed: Option<&Context>,
-        _strict: bool,
-    ) -> HelperResult {
-        Ok(None)
-    }
-
-    ghost one_steps = { λ h q a b i j. ∣ i ∙ sym j ∣₁ };
-
-    ghost one_offer = { λ h q a b i j. ∣ i ∙ sym j ∣₁ };
-}
-
-/// Writes a text, and its parameter.
-#[derive(Drop)]
-pub struct Saying {
-    pub alloc: Global,
-    pub text: String,
-}
-
-impl HelperDef for Saying {
-    ghost has_steps = { λ h q a. a ≡ gives (Some (writes (string_bytes h.text ++ shown_at 0 q.view) ∷ [])) };
-
-    ghost has_offer = { λ h q a. a ≡ gives not_offered };
-
-    fn call_inner(
-        &self,
-        _h: &Helper,
-        _data: &Context,
-        _changed: Option<&Context>,
-        _strict: bool,
-    ) -> Result<HelperValue, RenderError> {
-        Ok(HelperValue::NotOffered)
-    }
-
-    fn call(
-        &self,
-        h: &Helper,
-        _data: &Context,
-        _changed: Option<&Context>,
-        _strict: bool,
-    ) -> HelperResult {
-        let mut text = self.text.clone()?;
-        text.push_str(shown(self.alloc, h, 0)?.as_str())?;
-        Ok(Some(vec![in self.alloc; HelperStep::Write(text)]?))
-    }
-
-    ghost one_steps = { λ h q a b i j. ∣ i ∙ sym j ∣₁ };
-
-    ghost one_offer = { λ h q a b i j. ∣ i ∙ sym j ∣₁ };
-}
-
 /// Writes a number of metres, or of the unit that comes before it.
 #[derive(Drop)]
 pub struct Distance {
@@ -375,7 +153,7 @@ fn distance_said(alloc: Global, h: &Helper) -> Result<String, AllocError>
 {
     if h.param(1).is_some() {
         let mut text = shown(alloc, h, 1)?;
-        text.push_str(shown(alloc, h, 0)?.as_str())?;
+        push_shown(&mut text, alloc, h, 0)?;
         Ok(text)
     } else {
         let mut text = shown(alloc, h, 0)?;
@@ -392,4 +170,17 @@ pub fn shown(alloc: Global, h: &Helper, index: usize) -> Result<String, AllocErr
         Some(param) => param.render(alloc),
         None => Ok(String::new(alloc)),
     }
+}
+
+/// Appends the text of a parameter, and none where it isn't there.
+pub fn push_shown(
+    text: &mut String,
+    alloc: Global,
+    h: &Helper,
+    index: usize,
+) -> Result<(), AllocError>
+    ensures { OnOk result (string_bytes text.new ≡ string_bytes text.old ++ shown_at index (helper_view h.now)) }
+{
+    let shown = shown(alloc, h, index)?;
+    text.push_str(shown.as_str())
 }

@@ -7,3 +7,4 @@ pub mod functions;
 pub mod helpers;
 pub mod pieces;
 pub mod refusing;
+pub mod scripted;

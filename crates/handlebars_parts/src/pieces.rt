@@ -13,7 +13,7 @@ pub enum HeldStanding {
 }
 
 /// A piece, with all that was told of it. It is printed in this order.
-#[derive(Drop, PartialEq)]
+#[derive(PartialEq)]
 pub struct HeldPiece {
     pub kind: PieceKind,
     pub text: String,
@@ -23,19 +23,33 @@ pub struct HeldPiece {
     pub path: Option<Vec<String>>,
 }
 
+impl Drop for HeldPiece {
+    fn drop(self) {
+        let HeldPiece {
+            kind: _,
+            text: _,
+            template: _,
+            place: _,
+            turns: _,
+            path: _,
+        } = self;
+    }
+}
+
 impl HeldPiece {
     fn of(alloc: Global, text: &str, origin: &Origin<'_>) -> Result<HeldPiece, AllocError> {
-        let template = held_standing(alloc, origin.spot.template)?;
-        let path = held_path(alloc, origin.path)?;
-        let turns = origin.spot.turns.to_vec(alloc)?;
-        Ok(HeldPiece {
+        let mut piece = HeldPiece {
             kind: origin.kind,
             text: String::from_str(alloc, text)?,
-            template,
+            template: HeldStanding::First,
             place: held_place(origin.spot.place),
-            turns,
-            path,
-        })
+            turns: Vec::new(alloc),
+            path: None,
+        };
+        piece.template = held_standing(alloc, origin.spot.template)?;
+        piece.turns = origin.spot.turns.to_vec(alloc)?;
+        piece.path = held_path(alloc, origin.path)?;
+        Ok(piece)
     }
 }
 
