@@ -36,7 +36,7 @@ impl Both {
 }
 
 fn pair_of(alloc: Global, row: &Row) -> Result<Pair, Stop> {
-    let mut pair = Pair::new(alloc, row.data)?;
+    let mut pair = Pair::over(alloc, row.data)?;
     pair.registry.set_strict_mode(row.strict);
     if let Some((name, source)) = row.partial {
         pair.registry.register_partial(name, source)?;
@@ -75,12 +75,27 @@ impl Scene {
 
     // Whether a context that has failed answers so, and writes nothing.
     fn stays_failed(&mut self, alloc: Global, pair: &Pair) -> bool {
-        let Scene { template, rc } = self;
-        let Pair { registry, data } = pair;
         let mut out = StringOutput::new(alloc);
-        let written = template.render(alloc, registry, data, rc, &mut out, &Discard);
-        let text = template.renders(alloc, registry, data, rc, &Discard);
-        has_failed(&written) && has_failed(&text) && out.into_string().is_empty()
+        has_failed(&self.write(alloc, pair, &mut out))
+            && has_failed(&self.text(alloc, pair))
+            && out.into_string().is_empty()
+    }
+
+    /// Renders the tree to an output.
+    pub fn write(
+        &mut self,
+        alloc: Global,
+        pair: &Pair,
+        out: &mut StringOutput,
+    ) -> Result<(), RenderError> {
+        let Scene { template, rc } = self;
+        template.render(alloc, &pair.registry, &pair.data, rc, out, &Discard)
+    }
+
+    /// The text that the tree renders to.
+    pub fn text(&mut self, alloc: Global, pair: &Pair) -> Result<String, RenderError> {
+        let Scene { template, rc } = self;
+        template.renders(alloc, &pair.registry, &pair.data, rc, &Discard)
     }
 }
 

@@ -8,7 +8,6 @@ use crate::{contexts, errors, files, registering, scopes, trees, values};
 use std::alloc::Global;
 
 /// A call, by what it is of.
-#[derive(Clone, Copy)]
 pub enum Call {
     OfError(errors::Call),
     OfValue(values::Call),
@@ -20,17 +19,17 @@ pub enum Call {
 }
 
 /// The call of that name, if there is one.
-pub fn call_named(name: &str) -> Option<Call> {
+pub fn call_named(name: &str) -> Option<&'static Call> {
     for (named, call) in &CALLS {
         if *named == name {
-            return Some(*call);
+            return Some(call);
         }
     }
     None
 }
 
 /// What is seen of a call.
-pub fn seen(alloc: Global, call: Call) -> Result<Seen, Stop> {
+pub fn seen(alloc: Global, call: &Call) -> Result<Seen, Stop> {
     match call {
         Call::OfError(call) => errors::seen(alloc, call),
         Call::OfValue(call) => values::seen(alloc, call),

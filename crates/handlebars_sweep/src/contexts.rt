@@ -18,7 +18,6 @@ use std::borrow::CowStr;
 use std::collections::BTreeMap;
 
 /// A call of a context.
-#[derive(Clone, Copy)]
 pub enum Call {
     New,
     PushBlock,
@@ -29,7 +28,6 @@ pub enum Call {
 }
 
 /// One that renders, or does what renderings do.
-#[derive(Clone, Copy)]
 pub enum RenderingCall {
     Expand,
     ExpandAsName,
@@ -41,7 +39,7 @@ pub enum RenderingCall {
 }
 
 /// What is seen of a call.
-pub fn seen(alloc: Global, call: Call) -> Result<Seen, Stop> {
+pub fn seen(alloc: Global, call: &Call) -> Result<Seen, Stop> {
     match call {
         Call::New => made(alloc),
         Call::PushBlock => pushed(alloc),
@@ -137,7 +135,7 @@ const SOURCE: &str =
 const WRITTEN_TEXT: &str = "1y2y";
 
 // It is a refusal that makes the context fail, and nothing else.
-fn of_rendering(alloc: Global, call: RenderingCall) -> Result<Seen, Stop> {
+fn of_rendering(alloc: Global, call: &RenderingCall) -> Result<Seen, Stop> {
     let both = Both::of(alloc, &GIVEN)?;
     let mut scene = Scene::of(alloc, SOURCE)?;
     let seen = seen_of(alloc, call, &both.pair, &mut scene);
@@ -147,7 +145,7 @@ fn of_rendering(alloc: Global, call: RenderingCall) -> Result<Seen, Stop> {
 
 fn seen_of(
     alloc: Global,
-    call: RenderingCall,
+    call: &RenderingCall,
     pair: &Pair,
     scene: &mut Scene,
 ) -> Result<Seen, Stop> {

@@ -6,7 +6,6 @@ use handlebars::{RenderError, RenderErrorReason, TemplateError, TemplateErrorRea
 use std::alloc::Global;
 
 /// A call that makes or prints an error.
-#[derive(Clone, Copy)]
 pub enum Call {
     New,
     StrictError,
@@ -18,7 +17,7 @@ pub enum Call {
 }
 
 /// What is seen of a call.
-pub fn seen(alloc: Global, call: Call) -> Result<Seen, Stop> {
+pub fn seen(alloc: Global, call: &Call) -> Result<Seen, Stop> {
     match call {
         Call::New => of_reason(alloc, RenderError::new(alloc, "fault"), "fault"),
         Call::StrictError => strict_error(alloc),

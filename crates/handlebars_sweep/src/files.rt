@@ -3,7 +3,8 @@
 use crate::pair::Pair;
 use crate::seen::{Seen, Stop, of_error, of_stored, of_template_error};
 use handlebars::{
-    DirectorySourceOptions, EntryKind, TemplateError, TemplateErrorReason, TemplateReader,
+    DirectorySourceOptions, EntryKind, RenderError, TemplateError, TemplateErrorReason,
+    TemplateReader,
 };
 use log::sink::Discard;
 use std::alloc::Global;
@@ -11,7 +12,6 @@ use std::io;
 use std::io::ErrorKind;
 
 /// A call that reads files.
-#[derive(Clone, Copy)]
 pub enum Call {
     RegisterFile { dev: bool },
     RegisterFolder { dev: bool },
@@ -20,10 +20,10 @@ pub enum Call {
 }
 
 /// What is seen of a call.
-pub fn seen(alloc: Global, call: Call) -> Result<Seen, Stop> {
+pub fn seen(alloc: Global, call: &Call) -> Result<Seen, Stop> {
     match call {
-        Call::RegisterFile { dev } => file(alloc, dev),
-        Call::RegisterFolder { dev } => folder(alloc, dev),
+        Call::RegisterFile { dev } => file(alloc, *dev),
+        Call::RegisterFolder { dev } => folder(alloc, *dev),
         Call::RegisterRefusedFolder => refused_folder(alloc),
         Call::Render => read_anew(alloc),
     }
@@ -135,9 +135,9 @@ fn has_one(pair: &Pair, dev: bool) -> bool {
     pair.registry.get_templates().len() == 1 && pair.registry.dev_mode() == dev
 }
 
-fn rendered(pair: &Pair, name: &str, files: &mut Shelf) -> Result<String, Stop> {
+fn rendered(pair: &Pair, name: &str, files: &mut Shelf) -> Result<String, RenderError> {
     let Pair { registry, data } = pair;
-    Ok(registry.render_with_context(name, data, &Discard, files)?)
+    registry.render_with_context(name, data, &Discard, files)
 }
 
 // ---- a folder
@@ -239,8 +239,7 @@ fn read_anew(alloc: Global) -> Result<Seen, Stop> {
 }
 
 fn of_page(pair: &Pair, files: &mut Shelf) -> Seen {
-    let Pair { registry, data } = pair;
-    match registry.render_with_context("t", data, &Discard, files) {
+    match rendered(pair, "t", files) {
         Ok(text) => Seen::answer_if(text.as_str() == "BC!"),
         Err(error) => of_error(&error),
     }

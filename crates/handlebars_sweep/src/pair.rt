@@ -24,18 +24,24 @@ impl Drop for Pair {
 }
 
 impl Pair {
+    /// A new registry, and no data.
+    pub fn new(alloc: Global) -> Result<Pair, AllocError> {
+        Ok(Pair {
+            registry: Registry::new(alloc)?,
+            data: Context::null(),
+        })
+    }
+
     /// A new registry, and the data of a text in JSON.
-    pub fn new(alloc: Global, data: &str) -> Result<Pair, Stop> {
-        let data = data_of(alloc, data)?;
-        match Registry::new(alloc) {
-            Ok(registry) => Ok(Pair { registry, data }),
-            Err(AllocError) => Err(Stop::Memory),
-        }
+    pub fn over(alloc: Global, data: &str) -> Result<Pair, Stop> {
+        let mut pair = Pair::new(alloc)?;
+        pair.data = data_of(alloc, data)?;
+        Ok(pair)
     }
 
     /// A new registry with templates, by name and source, and no data.
     pub fn with(alloc: Global, templates: &[(&str, &str)]) -> Result<Pair, Stop> {
-        let mut pair = Pair::new(alloc, "null")?;
+        let mut pair = Pair::over(alloc, "null")?;
         pair.put_all(templates)?;
         Ok(pair)
     }

@@ -4,9 +4,8 @@ use crate::given::data_of;
 use crate::pair::Pair;
 use crate::seen::{Seen, Stop, of_error, of_stored, of_template_error, of_unit};
 use handlebars::{
-    BuiltIn, Context, DecoratorDef, DecoratorEntry, HelperDef, HelperEntry, Markup, MarkupFault,
-    NoFiles, Registry, RenderError, RenderErrorReason, Template, TemplateError,
-    TemplateErrorReason,
+    BuiltIn, DecoratorDef, DecoratorEntry, HelperDef, HelperEntry, Markup, MarkupFault, NoFiles,
+    RenderError, RenderErrorReason, Template, TemplateError, TemplateErrorReason,
 };
 use handlebars_parts::decorators::SettingData;
 use handlebars_parts::helpers::Twice;
@@ -14,7 +13,6 @@ use log::sink::Discard;
 use std::alloc::{AllocError, Global};
 
 /// A call of a registry that reads no files.
-#[derive(Clone, Copy)]
 pub enum Call {
     New,
     RegisterTree,
@@ -30,7 +28,6 @@ pub enum Call {
 }
 
 /// One that asks whether markup is fixed, where it isn't.
-#[derive(Clone, Copy)]
 pub enum MarkupCall {
     Judge,
     Tell,
@@ -38,7 +35,7 @@ pub enum MarkupCall {
 }
 
 /// What is seen of a call.
-pub fn seen(alloc: Global, call: Call) -> Result<Seen, Stop> {
+pub fn seen(alloc: Global, call: &Call) -> Result<Seen, Stop> {
     match call {
         Call::New => made(alloc),
         Call::RegisterTree => tree(alloc),
@@ -55,12 +52,9 @@ pub fn seen(alloc: Global, call: Call) -> Result<Seen, Stop> {
 }
 
 fn made(alloc: Global) -> Result<Seen, Stop> {
-    match Registry::new(alloc) {
-        Ok(registry) => {
-            let data = Context::null();
-            let source = "{{#if (eq 1 1)}}a{{/if}}{{#*inline \"p\"}}b{{/inline}}{{> p}}";
-            Ok(Seen::answer_if(renders(&Pair { registry, data }, source, "ab")?))
-        }
+    let source = "{{#if (eq 1 1)}}a{{/if}}{{#*inline \"p\"}}b{{/inline}}{{> p}}";
+    match Pair::new(alloc) {
+        Ok(pair) => Ok(Seen::answer_if(renders(&pair, source, "ab")?)),
         Err(AllocError) => Ok(Seen::Want),
     }
 }
@@ -127,16 +121,18 @@ fn of_mismatch(error: &TemplateError) -> Seen {
 
 // ---- helpers and decorators, which are seen by what a source renders to
 
-fn renders(pair: &Pair, source: &str, wanted: &str) -> Result<bool, Stop> {
+fn rendered(pair: &Pair, source: &str) -> Result<String, RenderError> {
     let Pair { registry, data } = pair;
-    let answer = registry.render_template_with_context(source, data, &Discard, &mut NoFiles);
-    Ok(answer?.as_str() == wanted)
+    registry.render_template_with_context(source, data, &Discard, &mut NoFiles)
+}
+
+fn renders(pair: &Pair, source: &str, wanted: &str) -> Result<bool, Stop> {
+    Ok(rendered(pair, source)?.as_str() == wanted)
 }
 
 // Whether a source is refused since it has no such part.
 fn has_no_part(pair: &Pair, source: &str) -> Result<bool, Stop> {
-    let Pair { registry, data } = pair;
-    match registry.render_template_with_context(source, data, &Discard, &mut NoFiles) {
+    match rendered(pair, source) {
         Ok(_) => Ok(false),
         Err(error) => match error.reason() {
             RenderErrorReason::HelperNotFound(_) => Ok(true),
@@ -203,7 +199,7 @@ fn own_decorator(alloc: Global) -> Result<Seen, Stop> {
 static UNFIXED: [(&str, &str); 2] = [("a", "{{{x}}}"), ("b", "x{{len y}}")];
 
 // What is seen of a call where two places of the registry keep markup from being fixed, and one of the source.
-fn of_markup(alloc: Global, call: MarkupCall) -> Result<Seen, Stop> {
+fn of_markup(alloc: Global, call: &MarkupCall) -> Result<Seen, Stop> {
     let pair = Pair::with(alloc, &UNFIXED)?;
     let (registry, files) = (&pair.registry, &mut NoFiles);
     match call {

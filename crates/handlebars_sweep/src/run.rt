@@ -73,9 +73,8 @@ fn run_all<R: Print + AllocGlobal>(rt: &R) -> io::Result<u8> {
 fn run_calls<R: Print + AllocGlobal>(rt: &R) -> io::Result<u8> {
     let mut status = 0u8;
     for (name, call) in &CALLS {
-        let seen = calls::seen(rt.alloc(), *call);
-        println!(rt; "{name}: {}", words_for(seen))?;
-        status = status.max(status_of(seen));
+        let seen = calls::seen(rt.alloc(), call);
+        status = status.max(shown(rt, "", "", name, seen)?);
     }
     Ok(status)
 }
@@ -85,9 +84,20 @@ fn run_row<R: Print + AllocGlobal>(rt: &R, row: &Row) -> io::Result<u8> {
     for way in &WAYS {
         if has_way(row, way) {
             let seen = ways::seen(rt.alloc(), row, way);
-            println!(rt; "{}/{}: {}", row.name, way.name, words_for(seen))?;
-            status = status.max(status_of(seen));
+            status = status.max(shown(rt, row.name, "/", way.name, seen)?);
         }
     }
     Ok(status)
+}
+
+// Prints what is seen of a case of that name, and answers its status.
+fn shown<R: Print>(
+    rt: &R,
+    row: &str,
+    mark: &str,
+    name: &str,
+    seen: Result<Seen, Stop>,
+) -> io::Result<u8> {
+    println!(rt; "{row}{mark}{name}: {}", words_for(seen))?;
+    Ok(status_of(seen))
 }

@@ -11,7 +11,6 @@ use std::collections::VecDeque;
 use std::rc::Rc;
 
 /// A call of a block of scope, or of data.
-#[derive(Clone, Copy)]
 pub enum Call {
     PutVariable,
     AddPath,
@@ -25,7 +24,7 @@ pub enum Call {
 }
 
 /// What is seen of a call.
-pub fn seen(alloc: Global, call: Call) -> Result<Seen, Stop> {
+pub fn seen(alloc: Global, call: &Call) -> Result<Seen, Stop> {
     match call {
         Call::PutVariable => variable(alloc),
         Call::AddPath => bound_path(alloc),

@@ -7,7 +7,6 @@ use std::alloc::{AllocError, Global};
 use std::collections::BTreeMap;
 
 /// A call that makes a tree, or a part of one.
-#[derive(Clone, Copy)]
 pub enum Call {
     Compile,
     CompileWithName,
@@ -18,7 +17,7 @@ pub enum Call {
 }
 
 /// What is seen of a call.
-pub fn seen(alloc: Global, call: Call) -> Result<Seen, Stop> {
+pub fn seen(alloc: Global, call: &Call) -> Result<Seen, Stop> {
     match call {
         Call::Compile => compile(alloc),
         Call::CompileWithName => compile_with_name(alloc),

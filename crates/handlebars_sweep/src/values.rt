@@ -15,7 +15,6 @@ use std::io;
 use std::io::{ErrorKind, Write};
 
 /// A call for a path, a value or a text.
-#[derive(Clone, Copy)]
 pub enum Call {
     ParsePath,
     ToJson,
@@ -30,7 +29,6 @@ pub enum Call {
 }
 
 /// One that takes a list.
-#[derive(Clone, Copy)]
 pub enum ListCall {
     Render,
     RenderScoped,
@@ -40,7 +38,7 @@ pub enum ListCall {
 }
 
 /// What is seen of a call.
-pub fn seen(alloc: Global, call: Call) -> Result<Seen, Stop> {
+pub fn seen(alloc: Global, call: &Call) -> Result<Seen, Stop> {
     match call {
         Call::ParsePath => Ok(path(alloc)),
         Call::ToJson => converted(alloc),
@@ -82,12 +80,12 @@ fn converted(alloc: Global) -> Result<Seen, Stop> {
     }
 }
 
-fn of_list(alloc: Global, call: ListCall) -> Result<Seen, Stop> {
+fn of_list(alloc: Global, call: &ListCall) -> Result<Seen, Stop> {
     let value = value_of(alloc, LIST)?;
     of_value(alloc, call, &value)
 }
 
-fn of_value(alloc: Global, call: ListCall, value: &JsonValue) -> Result<Seen, Stop> {
+fn of_value(alloc: Global, call: &ListCall, value: &JsonValue) -> Result<Seen, Stop> {
     match call {
         ListCall::Render => Ok(of_text(value.render(alloc), RENDERED)),
         ListCall::RenderScoped => Ok(of_text(ScopedJson::Constant(value).render(alloc), RENDERED)),

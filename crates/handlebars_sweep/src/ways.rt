@@ -6,8 +6,8 @@ use crate::pair::Pair;
 use crate::row::Row;
 use crate::seen::{Seen, Stop, if_stands, of_error};
 use handlebars::{
-    DecoratorDef, DecoratorEntry, HelperDef, HelperEntry, NoFiles, Registry, RenderError,
-    RenderErrorReason, Renderable, StringOutput,
+    DecoratorDef, DecoratorEntry, HelperDef, HelperEntry, NoFiles, RenderError, RenderErrorReason,
+    StringOutput,
 };
 use handlebars_parts::decorators::SettingData;
 use handlebars_parts::helpers::{Stepping, Twice};
@@ -130,11 +130,15 @@ pub fn has_way(row: &Row, way: &Way) -> bool {
 /// which renders its body twice, a helper `steps`, which writes a text and renders its body twice, and a decorator `foo`,
 /// which sets data.
 pub fn seen(alloc: Global, row: &Row, way: &Way) -> Result<Seen, Stop> {
-    let data = data_of(alloc, r#"{"hello":"war"}"#)?;
-    let foo: Box<dyn DecoratorDef> = Box::new(alloc, SettingData { alloc, data })?;
+    let mut both = both_of(alloc, row, way)?;
+    let registry = &mut both.pair.registry;
     let twice: Box<dyn HelperDef> = Box::new(alloc, Twice { alloc })?;
+    registry.register_helper("twice", HelperEntry::Own(twice))?;
     let steps: Box<dyn HelperDef> = Box::new(alloc, stepping(alloc)?)?;
-    seen_with(alloc, row, way, twice, steps, foo)
+    registry.register_helper("steps", HelperEntry::Own(steps))?;
+    let foo: Box<dyn DecoratorDef> = Box::new(alloc, setting(alloc)?)?;
+    registry.register_decorator("foo", DecoratorEntry::Own(foo))?;
+    seen_of(alloc, row, way, &both)
 }
 
 // Writes `<`, and renders its body twice, the second time at 7.
@@ -144,28 +148,9 @@ fn stepping(alloc: Global) -> Result<Stepping, Stop> {
     Ok(Stepping { alloc, text, value })
 }
 
-fn seen_with(
-    alloc: Global,
-    row: &Row,
-    way: &Way,
-    twice: Box<dyn HelperDef>,
-    steps: Box<dyn HelperDef>,
-    foo: Box<dyn DecoratorDef>,
-) -> Result<Seen, Stop> {
-    let mut both = both_of(alloc, row, way)?;
-    put_own(&mut both.pair.registry, twice, steps, foo)?;
-    seen_of(alloc, row, way, &both)
-}
-
-fn put_own(
-    registry: &mut Registry,
-    twice: Box<dyn HelperDef>,
-    steps: Box<dyn HelperDef>,
-    foo: Box<dyn DecoratorDef>,
-) -> Result<(), AllocError> {
-    registry.register_helper("twice", HelperEntry::Own(twice))?;
-    registry.register_helper("steps", HelperEntry::Own(steps))?;
-    registry.register_decorator("foo", DecoratorEntry::Own(foo))
+fn setting(alloc: Global) -> Result<SettingData, Stop> {
+    let data = data_of(alloc, r#"{"hello":"war"}"#)?;
+    Ok(SettingData { alloc, data })
 }
 
 fn both_of(alloc: Global, row: &Row, way: &Way) -> Result<Both, Stop> {
@@ -207,10 +192,8 @@ fn text(pair: &Pair, row: &Row, way: &Way) -> Result<String, RenderError> {
 fn written(alloc: Global, row: &Row, way: &Way, both: &Both) -> Result<Seen, Stop> {
     let mut held = Vec::new(alloc);
     let answer = write(&both.pair, row, way, &mut held);
-    if_stands(
-        of_written(alloc, row, &answer, held.as_slice()),
-        both.stands(),
-    )
+    let seen = of_written(alloc, row, &answer, held.as_slice());
+    if_stands(seen, both.stands())
 }
 
 fn write(pair: &Pair, row: &Row, way: &Way, held: &mut Vec<u8>) -> Result<(), RenderError> {
@@ -231,15 +214,20 @@ fn write(pair: &Pair, row: &Row, way: &Way, held: &mut Vec<u8>) -> Result<(), Re
 // What is told is compared with what was told before, with memory enough.
 fn told(alloc: Global, row: &Row, way: &Way, both: &Both) -> Result<Seen, Stop> {
     let whole = all_told(alloc, row, way, &both.pair)?;
+    told_again(alloc, row, way, both, whole.pieces.as_slice())
+}
+
+fn told_again(
+    alloc: Global,
+    row: &Row,
+    way: &Way,
+    both: &Both,
+    whole: &[HeldPiece],
+) -> Result<Seen, Stop> {
     let mut out = HeldPieces::new(alloc);
     let answer = tell(&both.pair, row, way, &mut out);
-    let seen = of_told(
-        alloc,
-        row,
-        &answer,
-        out.pieces.as_slice(),
-        whole.pieces.as_slice(),
-    );
+    let told = out.pieces.as_slice();
+    let seen = of_answer(alloc, row, &answer, told == whole, whole.starts_with(told));
     if_stands(seen, both.stands())
 }
 
@@ -247,12 +235,21 @@ fn told(alloc: Global, row: &Row, way: &Way, both: &Both) -> Result<Seen, Stop> 
 fn all_told(alloc: Global, row: &Row, way: &Way, pair: &Pair) -> Result<HeldPieces, Stop> {
     let mut whole = HeldPieces::new(alloc);
     let answer = tell(pair, row, way, &mut whole);
-    let text = whole.text()?;
-    match of_written(alloc, row, &answer, text.as_str().as_bytes())? {
-        Seen::Answer => Ok(whole),
-        Seen::Want => Err(Stop::Memory),
-        Seen::Other => Err(Stop::Broken),
+    match of_all(alloc, row, &answer, &whole) {
+        Ok(Seen::Answer) => Ok(whole),
+        Ok(Seen::Want) | Err(Stop::Memory) => Err(Stop::Memory),
+        _ => Err(Stop::Broken),
     }
+}
+
+fn of_all(
+    alloc: Global,
+    row: &Row,
+    answer: &Result<(), RenderError>,
+    whole: &HeldPieces,
+) -> Result<Seen, Stop> {
+    let text = whole.text()?;
+    of_written(alloc, row, answer, text.as_str().as_bytes())
 }
 
 fn tell(pair: &Pair, row: &Row, way: &Way, out: &mut HeldPieces) -> Result<(), RenderError> {
@@ -267,9 +264,7 @@ fn tell(pair: &Pair, row: &Row, way: &Way, out: &mut HeldPieces) -> Result<(), R
 fn tree_written(alloc: Global, row: &Row, both: &Both) -> Result<Seen, Stop> {
     let mut scene = Scene::of(alloc, row.source)?;
     let mut out = StringOutput::new(alloc);
-    let Pair { registry, data } = &both.pair;
-    let Scene { template, rc } = &mut scene;
-    let answer = template.render(alloc, registry, data, rc, &mut out, &Discard);
+    let answer = scene.write(alloc, &both.pair, &mut out);
     let stands = scene.stands(alloc, both, answer.is_err());
     let held = out.into_string();
     if_stands(
@@ -280,9 +275,7 @@ fn tree_written(alloc: Global, row: &Row, both: &Both) -> Result<Seen, Stop> {
 
 fn tree_handed_out(alloc: Global, row: &Row, both: &Both) -> Result<Seen, Stop> {
     let mut scene = Scene::of(alloc, row.source)?;
-    let Pair { registry, data } = &both.pair;
-    let Scene { template, rc } = &mut scene;
-    let answer = template.renders(alloc, registry, data, rc, &Discard);
+    let answer = scene.text(alloc, &both.pair);
     let stands = scene.stands(alloc, both, answer.is_err());
     if_stands(of_text(alloc, row, &answer), stands)
 }
@@ -296,7 +289,6 @@ fn of_text(alloc: Global, row: &Row, answer: &Result<String, RenderError>) -> Re
     }
 }
 
-// Behind a refusal for want of memory there is a beginning of the text.
 fn of_written(
     alloc: Global,
     row: &Row,
@@ -304,35 +296,23 @@ fn of_written(
     held: &[u8],
 ) -> Result<Seen, Stop> {
     let whole = row.text.as_bytes();
-    match answer {
-        Ok(()) => Ok(Seen::answer_if(row.refusal.is_none() && held == whole)),
-        Err(error) => {
-            let stands = match of_error(error).is_want() {
-                true => whole.starts_with(held),
-                false => held == whole,
-            };
-            if_stands(of_refusal(alloc, row, error), stands)
-        }
-    }
+    of_answer(alloc, row, answer, held == whole, whole.starts_with(held))
 }
 
-// Behind a refusal for want of memory the first pieces were told, and else all.
-fn of_told(
+// After a refusal for want of memory a beginning was written, and else all.
+fn of_answer(
     alloc: Global,
     row: &Row,
     answer: &Result<(), RenderError>,
-    told: &[HeldPiece],
-    whole: &[HeldPiece],
+    is_whole: bool,
+    is_beginning: bool,
 ) -> Result<Seen, Stop> {
     match answer {
-        Ok(()) => Ok(Seen::answer_if(row.refusal.is_none() && told == whole)),
-        Err(error) => {
-            let stands = match of_error(error).is_want() {
-                true => whole.starts_with(told),
-                false => told == whole,
-            };
-            if_stands(of_refusal(alloc, row, error), stands)
-        }
+        Ok(()) => Ok(Seen::answer_if(row.refusal.is_none() && is_whole)),
+        Err(error) => match of_error(error) {
+            Seen::Want => Ok(Seen::Want.if_so(is_beginning)),
+            _ => if_stands(of_refusal(alloc, row, error), is_whole),
+        },
     }
 }
 
