@@ -9,7 +9,7 @@ mod price;
 mod shop;
 
 use failure::Failure;
-use handlebars::{FileReader, Handlebars, HelperDef, HelperEntry};
+use handlebars::{FileReader, Handlebars, HelperDef, HelperEntry, TemplateReader};
 use pages::Site;
 use price::Price;
 use shop::sample_shop;
@@ -65,15 +65,24 @@ fn run(rt: &HostRuntime) -> Result<(), Failure> {
         Default::default(),
         &mut files,
     )?;
-    let shop = sample_shop(alloc)?;
+    write_pages(rt, &registry, &words, &mut files)
+}
+
+fn write_pages<F: TemplateReader>(
+    rt: &HostRuntime,
+    registry: &Handlebars,
+    words: &Words,
+    files: &mut F,
+) -> Result<(), Failure> {
+    let shop = sample_shop(rt.alloc())?;
     let site = Site {
         rt,
-        registry: &registry,
+        registry,
         folder: words.pages.as_str(),
     };
     if words.dev {
-        site.watch(&shop, &mut files)
+        site.watch(&shop, files)
     } else {
-        site.write(&shop, &mut files)
+        site.write(&shop, files)
     }
 }

@@ -58,16 +58,15 @@ impl From<RenderError> for Failure {
 impl fmt::Display for Failure {
     fn fmt<W: fmt::Write>(&self, f: &mut fmt::Formatter<W>) -> fmt::Result {
         match self {
-            Failure::Usage => write!(
-                f,
-                "usage: handlebars_bench [times=N] [writer] WORK[=SIZE] .."
-            ),
-            Failure::NotJson => write!(f, "handlebars_bench: not JSON"),
+            Failure::Usage => {
+                f.write_str("usage: handlebars_bench [times=N] [writer] WORK[=SIZE] ..")
+            }
+            Failure::NotJson => f.write_str("handlebars_bench: not JSON"),
             Failure::Uncompiled(cause) => write!(f, "{cause}"),
             Failure::Refused(cause) => write!(f, "{cause}"),
-            Failure::OutOfMemory => write!(f, "Out of memory"),
-            Failure::NoClock => write!(f, "handlebars_bench: no clock"),
-            Failure::CannotWrite => write!(f, "handlebars_bench: cannot write"),
+            Failure::OutOfMemory => f.write_str("Out of memory"),
+            Failure::NoClock => f.write_str("handlebars_bench: no clock"),
+            Failure::CannotWrite => f.write_str("handlebars_bench: cannot write"),
         }
     }
 }

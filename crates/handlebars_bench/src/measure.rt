@@ -25,6 +25,15 @@ pub enum Target {
 // The name that a work's template is registered under.
 const NAME: &str = "work";
 
+/// A work of a size, how often it is done, and where it is rendered to.
+#[derive(Clone, Copy)]
+pub struct Task {
+    pub work: Work,
+    pub size: u32,
+    pub times: u32,
+    pub target: Target,
+}
+
 /// The bytes of a work, and the least times that it took.
 #[derive(Clone, Copy)]
 pub struct Measure {
@@ -42,23 +51,38 @@ struct Rendering {
     least: Duration,
 }
 
-/// Compiles and renders a work of a size, each `times` times.
-pub fn measure_work<C: Clock>(
+/// Compiles and renders a work, as often as the task says.
+pub fn measure_work<C: Clock>(alloc: Global, clock: &C, task: Task) -> Result<Measure, Failure> {
+    let data = task.work.data(alloc, task.size)?;
+    let context = context(alloc, data.as_str())?;
+    measure_over(alloc, clock, task, &context, data.len())
+}
+
+// Over the context of data that has so many bytes.
+fn measure_over<C: Clock>(
     alloc: Global,
     clock: &C,
-    work: Work,
-    size: u32,
-    times: u32,
-    target: Target,
+    task: Task,
+    context: &Context,
+    data: usize,
 ) -> Result<Measure, Failure> {
-    let data = work.data(alloc, size)?;
-    let context = context(alloc, data.as_str())?;
-    let source = work.source(alloc, size)?;
-    let compiling = best_compiling(alloc, clock, source.as_str(), times)?;
-    let rendering = best_rendering(alloc, clock, source.as_str(), &context, times, target)?;
+    let source = task.work.source(alloc, task.size)?;
+    measure_source(alloc, clock, source.as_str(), task, context, data)
+}
+
+fn measure_source<C: Clock>(
+    alloc: Global,
+    clock: &C,
+    source: &str,
+    task: Task,
+    context: &Context,
+    data: usize,
+) -> Result<Measure, Failure> {
+    let compiling = best_compiling(alloc, clock, source, task.times)?;
+    let rendering = best_rendering(alloc, clock, source, context, task)?;
     Ok(Measure {
         source: source.len(),
-        data: data.len(),
+        data,
         answer: rendering.bytes,
         compiling,
         rendering: rendering.least,
@@ -96,23 +120,37 @@ fn one_compiling<C: Clock>(alloc: Global, clock: &C, source: &str) -> Result<Dur
     elapsed(clock, start)
 }
 
-// The bytes that so many renderings come to, and their least time.
+// The bytes that the renderings of a source come to, and their least time.
 fn best_rendering<C: Clock>(
     alloc: Global,
     clock: &C,
     source: &str,
     data: &Context,
-    times: u32,
-    target: Target,
+    task: Task,
 ) -> Result<Rendering, Failure> {
     let mut registry = Registry::new(alloc)?;
-    registry.register_template(NAME, Template::compile(alloc, source)?)?;
+    register(alloc, &mut registry, source)?;
+    best_of(alloc, clock, &registry, data, task)
+}
+
+fn register(alloc: Global, registry: &mut Registry, source: &str) -> Result<(), Failure> {
+    let template = Template::compile(alloc, source)?;
+    Ok(registry.register_template(NAME, template)?)
+}
+
+fn best_of<C: Clock>(
+    alloc: Global,
+    clock: &C,
+    registry: &Registry,
+    data: &Context,
+    task: Task,
+) -> Result<Rendering, Failure> {
     let mut answer = Rendering {
         bytes: 0,
         least: Duration::MAX,
     };
-    for _ in 0..times {
-        let next = one_rendering(alloc, clock, &registry, data, target)?;
+    for _ in 0..task.times {
+        let next = one_rendering(alloc, clock, registry, data, task.target)?;
         answer = Rendering {
             bytes: next.bytes,
             least: lesser(answer.least, next.least),
@@ -144,12 +182,23 @@ fn render_text(registry: &Registry, data: &Context) -> Result<usize, Failure> {
 }
 
 fn render_to_writer(alloc: Global, registry: &Registry, data: &Context) -> Result<usize, Failure> {
-    let Ok(mut buffer) = BufWriter::new(alloc, Counter::new()) else {
-        return Err(Failure::OutOfMemory);
-    };
-    registry.render_with_context_to_write(NAME, data, &mut buffer, &Discard, &mut NoFiles)?;
+    match BufWriter::new(alloc, Counter::new()) {
+        Ok(mut buffer) => {
+            write_to(&mut buffer, registry, data)?;
+            Ok(buffer.get_ref().bytes())
+        }
+        Err(_) => Err(Failure::OutOfMemory),
+    }
+}
+
+fn write_to(
+    buffer: &mut BufWriter<Counter>,
+    registry: &Registry,
+    data: &Context,
+) -> Result<(), Failure> {
+    registry.render_with_context_to_write(NAME, data, buffer, &Discard, &mut NoFiles)?;
     match buffer.flush() {
-        Ok(()) => Ok(buffer.get_ref().bytes()),
+        Ok(()) => Ok(()),
         Err(_) => Err(Failure::CannotWrite),
     }
 }

@@ -3,9 +3,8 @@
 ghost use Rattle.std.specs.Prelude.{◌≡◌, ◌≤◌, [], Err, IfOk};
 
 use crate::failure::Failure;
-use crate::measure::{Measure, Target, measure_work};
+use crate::measure::{Measure, Target, Task, measure_work};
 use crate::words::{Argument, asked};
-use crate::work::Work;
 use std::alloc::Global;
 use std::io;
 use std::io::Write;
@@ -64,7 +63,13 @@ fn run_tasks<C: Clock, O: Write>(
             Some(Argument::Writer) => target = Target::Writer,
             Some(Argument::Pieces) => target = Target::Pieces,
             Some(Argument::Run(work, size)) => {
-                run_work(alloc, clock, work, size, times, target, out)?
+                let task = Task {
+                    work,
+                    size,
+                    times: times.unwrap_or(1),
+                    target,
+                };
+                run_task(alloc, clock, task, times.is_some(), out)?;
             }
             None => {}
         }
@@ -72,39 +77,34 @@ fn run_tasks<C: Clock, O: Write>(
     Ok(())
 }
 
-// A work once, or so often, and then its times are told as well.
-fn run_work<C: Clock, O: Write>(
+// Does a task, and tells of it, also of its times where they are asked for.
+fn run_task<C: Clock, O: Write>(
     alloc: Global,
     clock: &C,
-    work: Work,
-    size: u32,
-    times: Option<u32>,
-    target: Target,
+    task: Task,
+    timed: bool,
     out: &mut O,
 ) -> Result<(), Failure> {
-    let measure = measure_work(alloc, clock, work, size, times.unwrap_or(1), target)?;
-    match tell(
-        work.texts().name,
-        size,
-        target,
-        &measure,
-        times.is_some(),
-        out,
-    ) {
+    let measure = measure_work(alloc, clock, task)?;
+    match tell(task, &measure, timed, out) {
         Ok(()) => Ok(()),
         Err(_) => Err(Failure::CannotWrite),
     }
 }
 
-fn tell<O: Write>(
-    name: &str,
-    size: u32,
-    target: Target,
-    measure: &Measure,
-    timed: bool,
-    out: &mut O,
-) -> io::Result<()> {
-    let to = match target {
+fn tell<O: Write>(task: Task, measure: &Measure, timed: bool, out: &mut O) -> io::Result<()> {
+    tell_bytes(task, measure, out)?;
+    if timed {
+        tell_times(measure, out)?;
+    }
+    writeln!(out)?;
+    out.flush()
+}
+
+fn tell_bytes<O: Write>(task: Task, measure: &Measure, out: &mut O) -> io::Result<()> {
+    let name = task.work.name;
+    let size = task.size;
+    let to = match task.target {
         Target::Text => "",
         Target::Writer => " to a writer",
         Target::Pieces => " by pieces",
@@ -115,15 +115,14 @@ fn tell<O: Write>(
     write!(
         out,
         "{name} of {size}{to}: template {source}, data {data}, answer {answer} bytes"
-    )?;
-    if timed {
-        let compiling = measure.compiling.as_micros();
-        let rendering = measure.rendering.as_micros();
-        write!(
-            out,
-            "; compiled in {compiling} us, rendered in {rendering} us"
-        )?;
-    }
-    writeln!(out)?;
-    out.flush()
+    )
+}
+
+fn tell_times<O: Write>(measure: &Measure, out: &mut O) -> io::Result<()> {
+    let compiling = measure.compiling.as_micros();
+    let rendering = measure.rendering.as_micros();
+    write!(
+        out,
+        "; compiled in {compiling} us, rendered in {rendering} us"
+    )
 }

@@ -39,11 +39,17 @@ fn failure_of_words(cause: ErrorKind) -> Failure {
 pub fn asked(word: &str) -> Option<Argument> {
     match word.split_once('=') {
         Some((name, number)) => asked_of(name, number.parse::<u32>().ok()?),
-        None if word == "writer" => Some(Argument::Writer),
-        None if word == "pieces" => Some(Argument::Pieces),
-        None => {
-            let work = Work::of_name(word)?;
-            Some(Argument::Run(work, work.texts().full_size))
+        None => asked_alone(word),
+    }
+}
+
+fn asked_alone(word: &str) -> Option<Argument> {
+    match word {
+        "writer" => Some(Argument::Writer),
+        "pieces" => Some(Argument::Pieces),
+        name => {
+            let work = Work::of_name(name)?;
+            Some(Argument::Run(work, work.full_size))
         }
     }
 }

@@ -3,22 +3,9 @@
 use std::alloc::{AllocError, Global};
 use std::fmt::Write;
 
-/// A work, which has a template and data.
+/// A work: a template and data of any size.
 #[derive(Clone, Copy)]
-pub enum Work {
-    Table,
-    Page,
-    Deep,
-    Escape,
-    Compile,
-    Plain,
-    Included,
-    Written,
-}
-
-/// The texts that a work is made of.
-#[derive(Clone, Copy)]
-pub struct WorkTexts {
+pub struct Work {
     pub name: &'static str,
     pub full_size: u32,
     // The template, or, where the template grows with the size, each line of it.
@@ -33,91 +20,69 @@ pub struct WorkTexts {
 #[derive(Clone, Copy)]
 enum Grows {
     Lines,
-    Items,
+    Rows,
+    Entries,
+    Numbers,
+    Marked,
 }
 
-impl WorkTexts {
-    fn line_count(self, size: u32) -> u32 {
-        match self.grows {
-            Grows::Lines => size,
-            Grows::Items => 1,
-        }
-    }
-
-    fn item_count(self, size: u32) -> u32 {
-        match self.grows {
-            Grows::Lines => 0,
-            Grows::Items => size,
-        }
-    }
-}
+const WORKS: [Work; 8] = [TABLE, PAGE, DEEP, ESCAPE, COMPILE, PLAIN, INCLUDED, WRITTEN];
 
 impl Work {
     /// The work of that name, if there is one.
     pub fn of_name(name: &str) -> Option<Work> {
-        match name {
-            "table" => Some(Work::Table),
-            "page" => Some(Work::Page),
-            "deep" => Some(Work::Deep),
-            "escape" => Some(Work::Escape),
-            "compile" => Some(Work::Compile),
-            "plain" => Some(Work::Plain),
-            "included" => Some(Work::Included),
-            "written" => Some(Work::Written),
-            _ => None,
+        for work in &WORKS {
+            if work.name == name {
+                return Some(*work);
+            }
         }
-    }
-
-    /// What it is made of.
-    pub fn texts(self) -> WorkTexts {
-        match self {
-            Work::Table => TABLE,
-            Work::Page => PAGE,
-            Work::Deep => DEEP,
-            Work::Escape => ESCAPE,
-            Work::Compile => COMPILE,
-            Work::Plain => PLAIN,
-            Work::Included => INCLUDED,
-            Work::Written => WRITTEN,
-        }
+        None
     }
 
     /// The template of a size.
-    pub fn source(self, alloc: Global, size: u32) -> Result<String, AllocError> {
-        let texts = self.texts();
+    pub fn source(&self, alloc: Global, size: u32) -> Result<String, AllocError> {
+        let lines = match self.grows {
+            Grows::Lines => size,
+            _ => 1,
+        };
         let mut text = String::new(alloc);
-        for _ in 0..texts.line_count(size) {
-            text.push_str(texts.line)?;
+        for _ in 0..lines {
+            text.push_str(self.line)?;
         }
         Ok(text)
     }
 
     /// The data of a size, as JSON.
-    pub fn data(self, alloc: Global, size: u32) -> Result<String, AllocError> {
-        let texts = self.texts();
-        let mut text = String::from_str(alloc, texts.front)?;
-        for number in 0..texts.item_count(size) {
-            if number > 0 {
-                text.push(',')?;
-            }
-            self.push_item(&mut text, number)?;
-        }
-        text.push_str(texts.end)?;
+    pub fn data(&self, alloc: Global, size: u32) -> Result<String, AllocError> {
+        let items = match self.grows {
+            Grows::Lines => 0,
+            _ => size,
+        };
+        let mut text = String::from_str(alloc, self.front)?;
+        self.push_items(&mut text, items)?;
         Ok(text)
     }
 
-    // Appends the item of that number, from 0.
-    fn push_item(self, text: &mut String, number: u32) -> Result<(), AllocError> {
-        match self {
-            Work::Table => push_row(text, u64::from(number)),
-            Work::Page => push_entry(text, number),
-            Work::Deep => write!(text, "{{\"v\":{number}}}"),
-            Work::Escape => push_marked(text),
-            Work::Compile => Ok(()),
-            Work::Plain => Ok(()),
-            Work::Included => push_entry(text, number),
-            Work::Written => push_entry(text, number),
+    // Appends so many items, and what stands behind them.
+    fn push_items(&self, text: &mut String, count: u32) -> Result<(), AllocError> {
+        for number in 0..count {
+            if number > 0 {
+                text.push(',')?;
+            }
+            push_item(text, self.grows, number)?;
         }
+        text.push_str(self.end)
+    }
+}
+
+// Appends the item of that number, from 0.
+fn push_item(text: &mut String, kind: Grows, number: u32) -> Result<(), AllocError> {
+    match kind {
+        Grows::Lines => Ok(()),
+        Grows::Rows => push_row(text, u64::from(number)),
+        Grows::Entries => push_entry(text, number),
+        Grows::Numbers => write!(text, "{{\"v\":{number}}}"),
+        Grows::Marked => push_marked(text),
     }
 }
 
@@ -151,44 +116,44 @@ fn push_marked(text: &mut String) -> Result<(), AllocError> {
     text.push('"')
 }
 
-const TABLE: WorkTexts = WorkTexts {
+const TABLE: Work = Work {
     name: "table",
     full_size: 6000,
     line: "<table>{{#each rows}}<tr>{{#each this}}<td>{{this}}</td>{{/each}}</tr>{{/each}}</table>",
     front: r#"{"rows":["#,
     end: "]}",
-    grows: Grows::Items,
+    grows: Grows::Rows,
 };
 
-const PAGE: WorkTexts = WorkTexts {
+const PAGE: Work = Work {
     name: "page",
     full_size: 8000,
     line: "{{#each items}}<li id={{id}}>{{name}} by {{owner.name}}{{#if tags}}: \
         {{#each tags}}{{#unless @first}}, {{/unless}}{{this}}{{/each}}{{/if}}</li>{{/each}}",
     front: r#"{"items":["#,
     end: "]}",
-    grows: Grows::Items,
+    grows: Grows::Entries,
 };
 
-const DEEP: WorkTexts = WorkTexts {
+const DEEP: Work = Work {
     name: "deep",
     full_size: 20_000,
     line: "{{#with n.n.n.n.n.n.n.n.n.n.n.n}}{{#each items}}{{v}} {{../x}};{{/each}}{{/with}}",
     front: r#"{"n":{"n":{"n":{"n":{"n":{"n":{"n":{"n":{"n":{"n":{"n":{"n":{"x":"y","items":["#,
     end: "]}}}}}}}}}}}}}",
-    grows: Grows::Items,
+    grows: Grows::Numbers,
 };
 
-const ESCAPE: WorkTexts = WorkTexts {
+const ESCAPE: Work = Work {
     name: "escape",
     full_size: 3000,
     line: "{{#each t}}<p>{{this}}</p>{{/each}}",
     front: r#"{"t":["#,
     end: "]}",
-    grows: Grows::Items,
+    grows: Grows::Marked,
 };
 
-const COMPILE: WorkTexts = WorkTexts {
+const COMPILE: Work = Work {
     name: "compile",
     full_size: 6000,
     line: "<p class=\"c1\">{{#if a.b1}}{{name}} {{lookup list 1}}{{else}}{{{html}}}{{/if}}</p>\n",
@@ -197,7 +162,7 @@ const COMPILE: WorkTexts = WorkTexts {
     grows: Grows::Lines,
 };
 
-const PLAIN: WorkTexts = WorkTexts {
+const PLAIN: Work = Work {
     name: "plain",
     full_size: 20_000,
     line: "Dear {{name}}, order {{number}} has left our house today and will be brought to {{place}} soon.\n",
@@ -206,22 +171,22 @@ const PLAIN: WorkTexts = WorkTexts {
     grows: Grows::Lines,
 };
 
-const INCLUDED: WorkTexts = WorkTexts {
+const INCLUDED: Work = Work {
     name: "included",
     full_size: 10_000,
     line: "{{#*inline \"entry\"}}<li id={{id}}>{{name}} by {{owner.name}}</li>{{/inline}}\
         {{#each items}}{{> entry}}{{/each}}",
     front: r#"{"items":["#,
     end: "]}",
-    grows: Grows::Items,
+    grows: Grows::Entries,
 };
 
 // What `included` includes, written out.
-const WRITTEN: WorkTexts = WorkTexts {
+const WRITTEN: Work = Work {
     name: "written",
     full_size: 10_000,
     line: "{{#each items}}<li id={{id}}>{{name}} by {{owner.name}}</li>{{/each}}",
     front: r#"{"items":["#,
     end: "]}",
-    grows: Grows::Items,
+    grows: Grows::Entries,
 };

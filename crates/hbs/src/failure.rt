@@ -98,12 +98,12 @@ impl From<RenderError> for Failure<'_> {
 impl fmt::Display for Failure<'_> {
     fn fmt<W: fmt::Write>(&self, f: &mut fmt::Formatter<W>) -> fmt::Result {
         match self {
-            Failure::Usage => write!(f, "usage: hbs [--strict] TEMPLATE DATA [FOLDER]"),
+            Failure::Usage => f.write_str("usage: hbs [--strict] TEMPLATE DATA [FOLDER]"),
             Failure::CannotRead(path) => write!(f, "hbs: cannot read {path}"),
             Failure::NotJson(path) => write!(f, "hbs: not JSON: {path}"),
             Failure::NotRegistered(cause) => write!(f, "{cause}"),
             Failure::Refused(cause) => write!(f, "{cause}"),
-            Failure::OutOfMemory => write!(f, "Out of memory"),
+            Failure::OutOfMemory => f.write_str("Out of memory"),
         }
     }
 }

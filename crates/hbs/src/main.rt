@@ -4,8 +4,6 @@
 
 mod failure;
 mod run;
-#[cfg(test)]
-mod tests;
 mod text;
 mod words;
 

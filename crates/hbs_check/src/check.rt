@@ -27,10 +27,21 @@ pub fn check<'a, R: TemplateReader, O: Write>(
     let source = read(task.template, files)?;
     let mut registry = Registry::new(alloc)?;
     registry.set_strict_mode(task.strict);
+    check_with(task, &mut registry, source.as_str(), files, out)
+}
+
+// With the templates of the folder.
+fn check_with<'a, R: TemplateReader, O: Write>(
+    task: &Request<'a>,
+    registry: &mut Registry,
+    source: &str,
+    files: &mut R,
+    out: &mut O,
+) -> Result<bool, Failure<'a>> {
     if let Some(folder) = task.folder {
         registry.register_templates_directory(folder, DirectorySourceOptions::default(), files)?;
     }
-    let faults = registry.template_markup_faults(source.as_str(), &mut NoFiles)?;
+    let faults = registry.template_markup_faults(source, &mut NoFiles)?;
     print_places(&faults, out)
 }
 

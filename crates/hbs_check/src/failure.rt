@@ -57,12 +57,12 @@ impl From<RenderError> for Failure<'_> {
 impl fmt::Display for Failure<'_> {
     fn fmt<W: fmt::Write>(&self, f: &mut fmt::Formatter<W>) -> fmt::Result {
         match self {
-            Failure::Usage => write!(f, "usage: hbs_check [--strict] TEMPLATE [FOLDER]"),
+            Failure::Usage => f.write_str("usage: hbs_check [--strict] TEMPLATE [FOLDER]"),
             Failure::CannotRead(path) => write!(f, "hbs_check: cannot read {path}"),
             Failure::NotRegistered(cause) => write!(f, "{cause}"),
             Failure::Refused(cause) => write!(f, "{cause}"),
-            Failure::OutOfMemory => write!(f, "Out of memory"),
-            Failure::CannotWrite => write!(f, "hbs_check: cannot write"),
+            Failure::OutOfMemory => f.write_str("Out of memory"),
+            Failure::CannotWrite => f.write_str("hbs_check: cannot write"),
         }
     }
 }

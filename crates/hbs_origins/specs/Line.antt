@@ -5,7 +5,7 @@ use Rattle.json.specs.Token.{Token, begin_object, end_object, begin_array, end_a
 use Rattle.handlebars_base.specs.Bytes.{Text, newline}
 use Rattle.handlebars_meaning.specs.Sites.{Template, the_first, the_included, Whereabouts}
 use Rattle.handlebars_meaning.specs.Told.{Kind, Told}
-use Rattle.handlebars_render.specs.PiecesView.{kind_name}
+use Rattle.handlebars_expand.specs.PiecesView.{kind_name}
 use Rattle.handlebars_template.specs.Place.{Place}
 
 -- the template: the one that is rendered by this word for it, one that is included by its name; an inline partial has none

@@ -105,7 +105,7 @@ impl fmt::Display for Failure<'_> {
             Failure::NotJson(path) => write!(f, "hbs_origins: not JSON: {path}"),
             Failure::NotRegistered(cause) => write!(f, "{cause}"),
             Failure::Refused(cause) => write!(f, "{cause}"),
-            Failure::OutOfMemory => write!(f, "Out of memory"),
+            Failure::OutOfMemory => f.write_str("Out of memory"),
         }
     }
 }

@@ -2,10 +2,10 @@
 
 ghost use Rattle.std.specs.Prelude.{◌≡◌, [], ◌∷◌, ◌++◌, decimal, map, option_map, OnErr, OnOk};
 ghost use Rattle.handlebars_base.specs.Outputs.{IsPrefix};
-ghost use Rattle.handlebars_render.specs.PiecesView.{kind_seen, path_seen, spot_seen, template_seen, told_seen};
+ghost use Rattle.handlebars_expand.specs.PiecesView.{kind_seen, path_seen, spot_seen, template_seen, told_seen};
 ghost use Rattle.handlebars_scope.specs.WayView.{lent_names};
 ghost use Rattle.handlebars_template.specs.TreeView.{place_of};
-ghost use Rattle.hbs_origins.specs.Line.{line_of, line_tokens, path_tokens, place_tokens, spot_tokens, template_token, text_tokens, told_tokens};
+ghost use Rattle.hbs_origins.specs.Line.{line_of, line_tokens, listed, path_tokens, place_tokens, spot_tokens, template_token, text_tokens, told_tokens};
 ghost use Rattle.json.specs.Token.{number, string};
 
 use handlebars::{FullPath, Origin, PieceKind, Spot, Standing, TemplateMapping};
@@ -174,12 +174,20 @@ fn write_path(
     match path {
         Some(path) => {
             let names = path.names(alloc)?;
-            writer.begin_array()?;
-            write_names(writer, names.as_slice())?;
-            writer.end_array()
+            write_listed(writer, names.as_slice())
         }
         None => writer.null(),
     }
+}
+
+fn write_listed(writer: &mut Writer, names: &[&str]) -> Result<(), AllocError>
+    ensures ok { OnOk result
+        (writer.new.tokens ≡ writer.old.tokens ++ listed (map string (lent_names names.now))) }
+    ensures before { writer.new.before ≡ writer.old.before }
+{
+    writer.begin_array()?;
+    write_names(writer, names)?;
+    writer.end_array()
 }
 
 fn write_names(writer: &mut Writer, names: &[&str]) -> Result<(), AllocError>

@@ -10,8 +10,6 @@ mod page;
 mod printer;
 mod request;
 mod run;
-#[cfg(test)]
-mod tests;
 mod words;
 
 use handlebars::FileReader;

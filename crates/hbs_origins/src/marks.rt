@@ -2,7 +2,7 @@
 
 ghost use Rattle.std.specs.List.{list_any};
 ghost use Rattle.std.specs.Prelude.{◌≡◌};
-ghost use Rattle.handlebars_render.specs.PiecesView.{kind_seen};
+ghost use Rattle.handlebars_expand.specs.PiecesView.{kind_seen};
 ghost use Rattle.hbs_origins.specs.Marks.{brings_mark, is_mark, may_bring};
 
 use handlebars::PieceKind;

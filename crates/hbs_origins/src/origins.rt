@@ -18,15 +18,39 @@ pub fn print_origins<'a, R: TemplateReader, O: Write>(
     out: &mut O,
 ) -> Result<(), Failure<'a>> {
     let source = read(task.template, files)?;
-    let value = json(alloc, task.data, read(task.data, files)?.as_str())?;
+    let value = read_json(alloc, task.data, files)?;
+    print_over(alloc, task, source.as_str(), value, files, out)
+}
+
+fn print_over<'a, R: TemplateReader, O: Write>(
+    alloc: Global,
+    task: &Request<'a>,
+    source: &str,
+    value: JsonValue,
+    files: &mut R,
+    out: &mut O,
+) -> Result<(), Failure<'a>> {
     let context = Context::try_from(value)?;
     let mut registry = Registry::new(alloc)?;
     registry.set_strict_mode(task.strict);
+    print_with(alloc, task, &mut registry, source, &context, files, out)
+}
+
+// With the templates of the folder.
+fn print_with<'a, R: TemplateReader, O: Write>(
+    alloc: Global,
+    task: &Request<'a>,
+    registry: &mut Registry,
+    source: &str,
+    context: &Context,
+    files: &mut R,
+    out: &mut O,
+) -> Result<(), Failure<'a>> {
     if let Some(folder) = task.folder {
         registry.register_templates_directory(folder, DirectorySourceOptions::default(), files)?;
     }
     let mut printer = Printer::new(alloc, task.form, task.template, out);
-    print_pieces(&registry, source.as_str(), &context, &mut printer)
+    print_pieces(registry, source, context, &mut printer)
 }
 
 // A page begins before the rendering and ends behind it, also behind one that is refused.
@@ -62,6 +86,14 @@ fn read<'a, R: TemplateReader>(path: &'a str, files: &mut R) -> Result<String, F
 }
 
 // The value that the text of a file is.
+fn read_json<'a, R: TemplateReader>(
+    alloc: Global,
+    path: &'a str,
+    files: &mut R,
+) -> Result<JsonValue, Failure<'a>> {
+    json(alloc, path, read(path, files)?.as_str())
+}
+
 fn json<'a>(alloc: Global, path: &'a str, text: &str) -> Result<JsonValue, Failure<'a>> {
     match JsonValue::from_str(alloc, text) {
         Ok(value) => Ok(value),

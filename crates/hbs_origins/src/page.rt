@@ -1,6 +1,6 @@
 //! The page of html that pieces are printed as.
 
-use handlebars::{Origin, RenderError, Standing, WriteOutput};
+use handlebars::{FullPath, Origin, RenderError, Standing, WriteOutput};
 use handlebars_base::support::write_escaped;
 use std::io;
 use std::io::Write;
@@ -59,14 +59,17 @@ pub fn add_end(gathered: &mut Vec<u8>, cause: Option<&RenderError>) -> io::Resul
     if told.is_err() {
         gathered.truncate(len);
     }
-    add_plain(gathered, "</body>\n</html>\n")?;
-    told
+    add_plain(gathered, "</body>\n</html>\n").and(told)
 }
 
 fn add_refusal(gathered: &mut Vec<u8>, cause: &RenderError) -> io::Result<()> {
     let text = format!(in *gathered.allocator(); "{cause}")?;
+    add_box(gathered, text.as_str())
+}
+
+fn add_box(gathered: &mut Vec<u8>, text: &str) -> io::Result<()> {
     add_plain(gathered, "<div class=\"refusal\">")?;
-    add_escaped(gathered, text.as_str())?;
+    add_escaped(gathered, text)?;
     add_plain(gathered, "</div>\n")
 }
 
@@ -91,8 +94,12 @@ fn add_span(
     text: &str,
     origin: &Origin<'_>,
 ) -> io::Result<()> {
-    let blank = if is_blank(text) { " blank" } else { "" };
-    write!(gathered, "<span class=\"{}{blank}\" title=\"", origin.kind)?;
+    add_plain(gathered, "<span class=\"")?;
+    add_plain(gathered, origin.kind.name())?;
+    if is_blank(text) {
+        add_plain(gathered, " blank")?;
+    }
+    add_plain(gathered, "\" title=\"")?;
     add_origin(gathered, first, origin)?;
     add_plain(gathered, "\">")?;
     add_escaped(gathered, text)?;
@@ -106,20 +113,25 @@ fn is_blank(text: &str) -> bool {
 
 // As `value of a.0.name: item, line 1, column 1, turn 0, 1`.
 fn add_origin(gathered: &mut Vec<u8>, first: &str, origin: &Origin<'_>) -> io::Result<()> {
-    write!(gathered, "{}", origin.kind)?;
+    add_plain(gathered, origin.kind.name())?;
     if let Some(path) = origin.path {
-        let names = path.names(*gathered.allocator())?;
-        add_path(gathered, names.as_slice())?;
+        add_path(gathered, path)?;
     }
     add_plain(gathered, ": ")?;
     add_template(gathered, first, origin.spot.template)?;
     if let Some(place) = origin.spot.place {
-        write!(gathered, ", line {}, column {}", place.0, place.1)?;
+        add_number(gathered, ", line ", place.0)?;
+        add_number(gathered, ", column ", place.1)?;
     }
     add_turns(gathered, origin.spot.turns)
 }
 
-fn add_path(gathered: &mut Vec<u8>, names: &[&str]) -> io::Result<()> {
+fn add_path(gathered: &mut Vec<u8>, path: FullPath<'_>) -> io::Result<()> {
+    let names = path.names(*gathered.allocator())?;
+    add_names(gathered, names.as_slice())
+}
+
+fn add_names(gathered: &mut Vec<u8>, names: &[&str]) -> io::Result<()> {
     if names.is_empty() {
         return add_plain(gathered, " of the data");
     }
@@ -143,7 +155,7 @@ fn add_template(gathered: &mut Vec<u8>, first: &str, template: Standing<'_>) -> 
 fn add_turns(gathered: &mut Vec<u8>, turns: &[usize]) -> io::Result<()> {
     let mut before = ", turn ";
     for turn in turns {
-        write!(gathered, "{before}{turn}")?;
+        add_number(gathered, before, *turn)?;
         before = ", ";
     }
     Ok(())
@@ -171,6 +183,10 @@ fn add_escaped(gathered: &mut Vec<u8>, text: &str) -> io::Result<()> {
 
 fn is_lost(c: char) -> bool {
     c == '\r' || c == '\0'
+}
+
+fn add_number(gathered: &mut Vec<u8>, before: &str, number: usize) -> io::Result<()> {
+    write!(gathered, "{before}{number}")
 }
 
 fn add_plain(gathered: &mut Vec<u8>, text: &str) -> io::Result<()> {

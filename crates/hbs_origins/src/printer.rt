@@ -1,7 +1,7 @@
 //! The output that a rendering tells of its pieces.
 
 ghost use Rattle.std.specs.Prelude.{◌≡◌, ◌≢◌, [], ◌++◌, OnOk};
-ghost use Rattle.handlebars_render.specs.PiecesView.{told_seen};
+ghost use Rattle.handlebars_expand.specs.PiecesView.{told_seen};
 ghost use Rattle.hbs_origins.specs.Printed.{PrintsBehind, printed_as};
 
 use crate::line::add_line;

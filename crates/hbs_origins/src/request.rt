@@ -1,9 +1,7 @@
 //! What the words of the command line ask for.
 
 ghost use Rattle.std.specs.Prelude.{◌≡◌, ◌≢◌, IfSome, None, length, option_map};
-ghost use Rattle.hbs_origins.specs.Words.{behind, behind_strict, begins_strict, file_words, form_of, form_words, is_option};
-
-use crate::words::Word;
+ghost use Rattle.hbs_origins.specs.Words.{behind, behind_strict, begins_strict, file_words, form_of, form_words};
 
 /// In which form pieces are printed.
 #[derive(Clone, Copy, Debug, PartialEq, Eq)]
@@ -27,8 +25,8 @@ pub struct Request<'a> {
 }
 
 impl<'a> Request<'a> {
-    /// What the words ask for, unless they are other than two or three texts behind the options.
-    pub fn of_words(words: &'a [Word]) -> Option<Request<'a>>
+    /// What the words ask for, unless they are other than two or three behind the options.
+    pub fn of_words(words: &'a [String]) -> Option<Request<'a>>
         ensures usage { length (file_words words.now) ≢ 2 → length (file_words words.now) ≢ 3 → result ≡ None }
         ensures strict { IfSome result (λ task. task.strict ≡ begins_strict words.now) }
         ensures form { IfSome result (λ task. task.form ≡ form_of words.now) }
@@ -36,14 +34,14 @@ impl<'a> Request<'a> {
         let (strict, words) = split_strict(words);
         let (form, words) = split_form(words);
         match words {
-            [Word::Text(template), Word::Text(data)] => Some(Request {
+            [template, data] => Some(Request {
                 strict,
                 form,
                 template: template.as_str(),
                 data: data.as_str(),
                 folder: None,
             }),
-            [Word::Text(template), Word::Text(data), Word::Text(folder)] => Some(Request {
+            [template, data, folder] => Some(Request {
                 strict,
                 form,
                 template: template.as_str(),
@@ -56,7 +54,7 @@ impl<'a> Request<'a> {
 }
 
 // Whether the first word is `--strict`, and the words behind it.
-fn split_strict(words: &[Word]) -> (bool, &[Word])
+fn split_strict(words: &[String]) -> (bool, &[String])
     ensures strict { result.0 ≡ begins_strict words.now }
     ensures words { result.1.now ≡ behind_strict words.now }
 {
@@ -67,7 +65,7 @@ fn split_strict(words: &[Word]) -> (bool, &[Word])
 }
 
 // The form that the first word asks for, and the words behind it.
-fn split_form(words: &[Word]) -> (Form, &[Word])
+fn split_form(words: &[String]) -> (Form, &[String])
     ensures { (result.0, result.1.now) ≡ form_words words.now }
 {
     match behind(words, "--marks") {
@@ -80,26 +78,17 @@ fn split_form(words: &[Word]) -> (Form, &[Word])
 }
 
 // The words behind the first one, where that is this option.
-fn behind<'a>(words: &'a [Word], option: &str) -> Option<&'a [Word]>
+fn behind<'a>(words: &'a [String], option: &str) -> Option<&'a [String]>
     ensures { option_map (λ rest. rest.now) result ≡ behind option.now words.now }
 {
     match words.split_first() {
         Some((first, rest)) => {
-            if is_option(first, option) {
+            if first.as_str() == option {
                 Some(rest)
             } else {
                 None
             }
         }
         None => None,
-    }
-}
-
-fn is_option(word: &Word, option: &str) -> bool
-    ensures { result ≡ is_option option.now word.now }
-{
-    match word {
-        Word::Text(text) => text.as_str() == option,
-        Word::Unreadable => false,
     }
 }

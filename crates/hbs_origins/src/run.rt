@@ -6,35 +6,35 @@ ghost use Rattle.hbs_origins.specs.Words.{file_words};
 use crate::failure::Failure;
 use crate::origins::print_origins;
 use crate::request::Request;
-use crate::words::Word;
 use handlebars::TemplateReader;
-use std::alloc::{AllocError, Global};
+use std::alloc::Global;
 use std::io::Write;
 
 /// Renders the template that the first word names over the data that the second one names, with the templates of the
 /// folder that a third one names, and prints the pieces of its text with where they come from; answers the status that the
 /// program ends with. In front of them `--strict` asks for strict mode, and `--marks` or `--html` behind that for another form.
-/// `words` is an error where they found no memory. Other than two or three words that are texts, behind these options, are
-/// refused before any file is read. A run that fails says why in one line on `err`; what was written to `out` before it
-/// fails stays.
-pub fn run<R: TemplateReader, O: Write, E: Write>(
+/// `words` is an error where they can't be had. Other than two or three words, behind these options, are refused before any
+/// file is read. A run that fails says why in one line on `err`; what was written to `out` before it fails stays.
+pub fn run<'a, R: TemplateReader, O: Write, E: Write>(
     alloc: Global,
-    words: Result<Vec<Word>, AllocError>,
+    words: Result<Vec<String>, Failure<'a>>,
     files: &mut R,
     out: &mut O,
     err: &mut E,
 ) -> u8
     ensures status { result ≤ 2 }
-    ensures usage { IfOk words (λ given. length (file_words given.items) ≢ 2
+    ensures usage { IfOk words.entry (λ given. length (file_words given.items) ≢ 2
         → length (file_words given.items) ≢ 3 → (result ≡ 2) × (files.new ≡ files.old) × (out.new ≡ out.old)) }
-    ensures memory { IfErr words (λ _. (result ≡ 1) × (files.new ≡ files.old) × (out.new ≡ out.old)) }
+    ensures untouched { IfErr words.entry (λ _. (files.new ≡ files.old) × (out.new ≡ out.old)) }
+    ensures unread { IfErr words.entry (λ e. e ≡ Failure.Usage → result ≡ 2) }
+    ensures memory { IfErr words.entry (λ e. e ≡ Failure.OutOfMemory → result ≡ 1) }
 {
     match words {
         Ok(words) => match print(alloc, words.as_slice(), files, out) {
             Ok(()) => 0,
             Err(failure) => report(&failure, err),
         },
-        Err(_) => report(&Failure::OutOfMemory, err),
+        Err(failure) => report(&failure, err),
     }
 }
 
@@ -50,7 +50,7 @@ fn report<E: Write>(failure: &Failure<'_>, err: &mut E) -> u8
 
 fn print<'a, R: TemplateReader, O: Write>(
     alloc: Global,
-    words: &'a [Word],
+    words: &'a [String],
     files: &mut R,
     out: &mut O,
 ) -> Result<(), Failure<'a>>
