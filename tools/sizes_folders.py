@@ -70,6 +70,29 @@ def row_of_inclusions(size, stack=STACK):
     return task
 
 
+def data_of_depth(depth):
+    """Objects in each other around 1, as the text of a row."""
+    return [['{"n":', depth], "1", ["}", depth]]
+
+
+@fixed
+def inclusions_of_itself_200_blocks():
+    """A template that includes itself within 200 blocks, as deep as the data are: from a source 64 times and by its name 64
+    times more than itself, and then without an end. No script and no row of the gate nests so deep, since these also run as
+    Rattle's own compiler builds them, where a block takes more of the stack."""
+    ends = {"p": "{{#if @root.n}}" * 199 + "x{{#with n}}{{> p}}{{/with}}" + "{{/if}}" * 199}
+    endless = {"p": "{{#if n}}" * 200 + "{{> p}}" + "{{/if}}" * 200}
+    refusal = {"reason": "Inclusions nest deeper than 64", "line": 1, "column": 1801, "template": "p"}
+    rows = [
+        {"templates": ends, "source": "{{> p}}", "json": data_of_depth(63), "text": "x" * 64},
+        {"templates": ends, "name": "p", "json": data_of_depth(64), "text": "x" * 65},
+        {"templates": endless, "name": "p", "json": data_of_depth(63), "text": "", **refusal},
+    ]
+    task = Task({"rows.json": json.dumps(rows).encode()}, ["rows.json"], b"rows.json: 0 of 3 rows differ\n")
+    task.program = "tests"
+    return task
+
+
 @sized(65_535, "inclusions")
 def inclusions_in_each_other(size):
     return row_of_inclusions(size, 1 << 30)

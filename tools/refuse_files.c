@@ -1,0 +1,57 @@
+/* Loaded before a program (LD_PRELOAD), it tells which paths the program opens, and refuses one of them. ASKED_FILES=FILE
+   gets a line for each path, in the order in which they are opened; one that is opened as a folder ends in `/`.
+   REFUSE_FILE=PATH is refused with the error whose number is REFUSE_WITH. */
+#define _GNU_SOURCE
+#include <dlfcn.h>
+#include <errno.h>
+#include <fcntl.h>
+#include <stdarg.h>
+#include <stdio.h>
+#include <stdlib.h>
+#include <string.h>
+
+static int asked = -1;
+static const char *refused, *error;
+
+__attribute__((constructor)) static void begin(void)
+{
+    int (*next)(const char *, int, ...) = dlsym(RTLD_NEXT, "open");
+    const char *path = getenv("ASKED_FILES");
+    refused = getenv("REFUSE_FILE");
+    error = getenv("REFUSE_WITH");
+    if (path)
+        asked = next(path, O_WRONLY | O_CREAT | O_APPEND | O_CLOEXEC, 0600);
+}
+
+/* Tells of a path, and whether it is refused. */
+static int is_refused(const char *path)
+{
+    if (asked >= 0)
+        dprintf(asked, "%s\n", path);
+    if (!refused || !error || strcmp(path, refused) != 0)
+        return 0;
+    errno = atoi(error);
+    return 1;
+}
+
+int openat(int folder, const char *path, int flags, ...)
+{
+    int (*next)(int, const char *, int, ...) = dlsym(RTLD_NEXT, "openat");
+    va_list rest;
+    mode_t mode;
+    va_start(rest, flags);
+    mode = flags & O_CREAT ? va_arg(rest, mode_t) : 0;
+    va_end(rest);
+    return is_refused(path) ? -1 : next(folder, path, flags, mode);
+}
+
+int open(const char *path, int flags, ...)
+{
+    int (*next)(const char *, int, ...) = dlsym(RTLD_NEXT, "open");
+    va_list rest;
+    mode_t mode;
+    va_start(rest, flags);
+    mode = flags & O_CREAT ? va_arg(rest, mode_t) : 0;
+    va_end(rest);
+    return is_refused(path) ? -1 : next(path, flags, mode);
+}
