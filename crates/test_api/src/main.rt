@@ -10,6 +10,7 @@ mod held;
 mod made;
 mod memory;
 mod names;
+mod own;
 mod pages;
 mod run;
 mod script;

@@ -2,6 +2,8 @@
 
 use crate::answer::Answer;
 use crate::fields::{Stop, items, joined, text};
+use crate::made::part::{Part, part_of};
+use crate::own::Own;
 use crate::state::State;
 use crate::steps::answer;
 use handlebars::JsonValue;
@@ -14,13 +16,37 @@ pub fn differs<R: Files + AllocGlobal + Clone + Drop>(
     script: &JsonValue,
     report: &mut String,
 ) -> Result<bool, Stop> {
-    match State::new(rt.alloc(), script) {
-        Ok(mut state) => takes(rt, script, &mut state, report),
-        Err(stop) => {
-            report_step(rt.alloc(), script, 0, script, report)?;
-            report_answer(rt.alloc(), script, Err(stop), report)?;
-            Ok(true)
+    let alloc = rt.alloc();
+    // (A function that boxes a part may not hand it out, so the parts are boxed here, before any step is taken.)
+    let mut own = Own::new(alloc);
+    let mut number = 0u64;
+    for step in items(script, "steps") {
+        number = number.saturating_add(1);
+        match part_of(alloc, step) {
+            Ok(Some(Part::Helper(part))) => own.add_helper(Box::new(alloc, part)?)?,
+            Ok(Some(Part::Distance(part))) => own.add_helper(Box::new(alloc, part)?)?,
+            Ok(Some(Part::RefusingHelper(part))) => own.add_helper(Box::new(alloc, part)?)?,
+            Ok(Some(Part::Decorator(part))) => own.add_decorator(Box::new(alloc, part)?)?,
+            Ok(Some(Part::RefusingDecorator(part))) => own.add_decorator(Box::new(alloc, part)?)?,
+            Ok(Some(Part::Escape(part))) => own.add_escape(Box::new(alloc, part)?)?,
+            Ok(Some(Part::RefusingEscape(part))) => own.add_escape(Box::new(alloc, part)?)?,
+            Ok(None) => {}
+            Err(stop) => return report_stop(alloc, script, number, step, stop, report),
         }
+    }
+    takes_all(rt, script, own, report)
+}
+
+// Takes the steps, with the parts that they register.
+fn takes_all<R: Files + AllocGlobal + Clone + Drop>(
+    rt: &R,
+    script: &JsonValue,
+    own: Own,
+    report: &mut String,
+) -> Result<bool, Stop> {
+    match State::new(rt.alloc(), script, own) {
+        Ok(mut state) => takes(rt, script, &mut state, report),
+        Err(stop) => report_stop(rt.alloc(), script, 0, script, stop, report),
     }
 }
 
@@ -72,6 +98,19 @@ fn report_step(
     let call = text(step, "do").unwrap_or("no call");
     let line = format!(in alloc; "  {what:?}, step {number}: {call}\n")?;
     Ok(report.push_str(line.as_str())?)
+}
+
+fn report_stop(
+    alloc: Global,
+    script: &JsonValue,
+    number: u64,
+    step: &JsonValue,
+    stop: Stop,
+    report: &mut String,
+) -> Result<bool, Stop> {
+    report_step(alloc, script, number, step, report)?;
+    report_answer(alloc, step, Err(stop), report)?;
+    Ok(true)
 }
 
 fn report_answer(

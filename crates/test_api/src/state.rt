@@ -4,6 +4,7 @@ use crate::bench::Bench;
 use crate::fields::{Stop, value};
 use crate::held::taken;
 use crate::memory::Texts;
+use crate::own::Own;
 use handlebars::{BlockContext, BlockParams, Context, JsonValue, LocalVars, RenderError};
 use handlebars_parts::pieces::HeldPieces;
 use std::alloc::Global;
@@ -14,6 +15,7 @@ pub struct State {
     pub bench: Bench,
     pub scopes: Scopes,
     pub kept: Kept,
+    pub own: Own,
 }
 
 impl Drop for State {
@@ -22,18 +24,20 @@ impl Drop for State {
             bench: _,
             scopes: _,
             kept: _,
+            own: _,
         } = self;
     }
 }
 
 impl State {
-    /// That of a script: new, over the data of its field `data`, or over null.
-    pub fn new(alloc: Global, script: &JsonValue) -> Result<State, Stop> {
+    /// That of a script: new, over the data of its field `data`, or over null, with the parts that it registers.
+    pub fn new(alloc: Global, script: &JsonValue, own: Own) -> Result<State, Stop> {
         let bench = Bench::new(alloc, data_of(script)?)?;
         Ok(State {
             bench,
             scopes: Scopes::new(alloc),
             kept: Kept::new(alloc),
+            own,
         })
     }
 }

@@ -52,6 +52,7 @@ fn of_group<R: Files + AllocGlobal + Clone + Drop>(
         "data" => data::answer(state, call, step),
         "error" => error::answer(&mut state.kept, call, step),
         "pieces" => pieces::answer(state, call, step),
+        "parts" => parts::answer(&mut state.bench, &mut state.own, call, step),
         _ => of_bench(state, group, call, step),
     }
 }
@@ -61,7 +62,6 @@ fn of_bench(state: &mut State, group: &str, call: &str, step: &JsonValue) -> Ans
     let bench = &mut state.bench;
     match group {
         "registry" => registry::answer(bench, call, step),
-        "parts" => parts::answer(bench, call, step),
         "render" => render::answer(bench, call, step),
         "element" => elements::answer(bench, call, step),
         "line" => line::answer(bench, call, step),

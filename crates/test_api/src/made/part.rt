@@ -1,13 +1,86 @@
-//! What a helper and a decorator do.
+//! Helpers, decorators and escape functions of a script's own.
 
-use crate::fields::{Stop, owned, text};
+use crate::fields::{Stop, items, owned, text};
 use crate::state::context_of;
 use handlebars::{HelperValue, JsonValue};
-use handlebars_parts::scripted::{ScriptedAction, ScriptedStep};
+use handlebars_parts::escape::Doubled;
+use handlebars_parts::helpers::Distance;
+use handlebars_parts::refusing::Refusing;
+use handlebars_parts::scripted::{ScriptedAction, ScriptedDecorator, ScriptedHelper, ScriptedStep};
 use std::alloc::Global;
+use std::io::ErrorKind;
 
-/// The steps of the field `steps`, if there are any.
-pub fn steps_of(alloc: Global, it: &JsonValue) -> Result<Option<Vec<ScriptedStep>>, Stop> {
+/// A part that a script registers.
+pub enum Part {
+    Helper(ScriptedHelper),
+    Distance(Distance),
+    RefusingHelper(Refusing),
+    Decorator(ScriptedDecorator),
+    RefusingDecorator(Refusing),
+    Escape(Doubled),
+    RefusingEscape(Refusing),
+}
+
+const REFUSING: Refusing = Refusing {
+    kind: ErrorKind::PermissionDenied,
+};
+
+/// The part that a step registers, if it registers one of its own.
+pub fn part_of(alloc: Global, step: &JsonValue) -> Result<Option<Part>, Stop> {
+    match text(step, "do")? {
+        "parts.helper" => Ok(Some(helper_part(alloc, step)?)),
+        "parts.decorator" => decorator_part(alloc, step),
+        "parts.escape" => escape_part(alloc, step),
+        _ => Ok(None),
+    }
+}
+
+fn helper_part(alloc: Global, step: &JsonValue) -> Result<Part, Stop> {
+    match step.get("part").and_then(JsonValue::as_str) {
+        None => Ok(Part::Helper(helper_of(alloc, step)?)),
+        Some("distance") => Ok(Part::Distance(Distance { alloc })),
+        Some("refusing") => Ok(Part::RefusingHelper(REFUSING)),
+        Some(_) => Err(Stop::Field("part")),
+    }
+}
+
+fn decorator_part(alloc: Global, step: &JsonValue) -> Result<Option<Part>, Stop> {
+    match step.get("part").and_then(JsonValue::as_str) {
+        None => Ok(Some(Part::Decorator(decorator_of(alloc, step)?))),
+        Some("inline") => Ok(None),
+        Some("refusing") => Ok(Some(Part::RefusingDecorator(REFUSING))),
+        Some(_) => Err(Stop::Field("part")),
+    }
+}
+
+fn escape_part(alloc: Global, step: &JsonValue) -> Result<Option<Part>, Stop> {
+    match text(step, "part")? {
+        "html" => Ok(None),
+        "plain" => Ok(None),
+        "doubled" => Ok(Some(Part::Escape(Doubled { alloc }))),
+        "refusing" => Ok(Some(Part::RefusingEscape(REFUSING))),
+        _ => Err(Stop::Field("part")),
+    }
+}
+
+/// The helper that is described.
+pub fn helper_of(alloc: Global, it: &JsonValue) -> Result<ScriptedHelper, Stop> {
+    let steps = steps_of(alloc, it)?;
+    let offer = offer_of(it)?;
+    Ok(ScriptedHelper {
+        alloc,
+        steps,
+        offer,
+    })
+}
+
+fn decorator_of(alloc: Global, it: &JsonValue) -> Result<ScriptedDecorator, Stop> {
+    let actions = actions_of(alloc, items(it, "actions"))?;
+    Ok(ScriptedDecorator { alloc, actions })
+}
+
+// The steps of the field `steps`, if there are any.
+fn steps_of(alloc: Global, it: &JsonValue) -> Result<Option<Vec<ScriptedStep>>, Stop> {
     match it.get("steps").and_then(JsonValue::as_array) {
         Some(steps) => Ok(Some(all_steps(alloc, steps.as_slice())?)),
         None => Ok(None),
@@ -37,8 +110,8 @@ fn step_of(alloc: Global, it: &JsonValue) -> Result<ScriptedStep, Stop> {
     }
 }
 
-/// The value of the field `value`; where that is missing, what `offer` says, `missing` or nothing.
-pub fn offer_of(it: &JsonValue) -> Result<HelperValue, Stop> {
+// The value of the field `value`; where that is missing, what `offer` says, `missing` or nothing.
+fn offer_of(it: &JsonValue) -> Result<HelperValue, Stop> {
     if let Some(value) = it.get("value") {
         return Ok(HelperValue::Value(value.clone()?));
     }
@@ -49,8 +122,8 @@ pub fn offer_of(it: &JsonValue) -> Result<HelperValue, Stop> {
     }
 }
 
-/// What a decorator does.
-pub fn actions_of(alloc: Global, all: &[JsonValue]) -> Result<Vec<ScriptedAction>, Stop> {
+// What a decorator does.
+fn actions_of(alloc: Global, all: &[JsonValue]) -> Result<Vec<ScriptedAction>, Stop> {
     let mut actions = Vec::new(alloc);
     for it in all {
         actions.push(action_of(alloc, it)?)?;

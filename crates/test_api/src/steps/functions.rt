@@ -1,4 +1,4 @@
-//! Functions that stand for helpers and for a decorator.
+//! A rendering with functions that stand for helpers and for a decorator.
 
 ghost use Rattle.std.specs.Prelude.{◌≡◌, ◌++◌, ◌∷◌, [], MatchResult, Some, codes};
 ghost use Rattle.handlebars_base.specs.Reasons.{out_of_memory};
@@ -12,23 +12,21 @@ ghost use Rattle.handlebars_parts.specs.Parts.{shown_at};
 
 use crate::answer::{Answer, shown};
 use crate::bench::Bench;
-use crate::fields::Stop;
+use crate::fields::{Stop, text, value};
+use crate::made::part::helper_of;
 use handlebars::{
     Context, Decorator, DecoratorEntry, DecoratorFn, FnDecorator, FnDeeds, FnHelper, FnSteps,
-    Helper, HelperEntry, HelperFn,
+    Helper, HelperEntry, HelperFn, JsonValue, NoFiles,
 };
 use handlebars_parts::functions::{renamed, said};
+use log::sink::Discard;
+use std::alloc::Global;
 
-/// Registers `another-simple-helper` and `closure-helper`, each of which writes a text and its parameter, and `renamed`,
-/// which makes `size` a name of `len`.
-pub fn register(bench: &mut Bench) -> Answer {
-    register_second(bench)?;
-    register_third(bench)?;
-    register_renamed(bench)
-}
-
-fn register_second(bench: &mut Bench) -> Result<(), Stop> {
-    let alloc = bench.alloc;
+/// What a source renders to where `simple-helper` is the helper of the field `helper`, `another-simple-helper` and
+/// `closure-helper` are functions that write a text and their parameter, and `renamed` is one that makes `size` a name of `len`.
+pub fn rendered(alloc: Global, step: &JsonValue) -> Answer {
+    let mut bench = Bench::new(alloc, Context::null())?;
+    let first = helper_of(alloc, value(step, "helper")?)?;
     let second: HelperFn = Box::new(
         alloc,
         move |h: &Helper, _data: &Context, _changed: &Option<&Context>, _strict: bool| -> FnSteps
@@ -38,11 +36,6 @@ fn register_second(bench: &mut Bench) -> Result<(), Stop> {
                 (λ e. refused_for e ≡ out_of_memory) }
         { said(alloc, "2nd helper: ", h) },
     )?;
-    put(bench, "another-simple-helper", FnHelper::new(second))
-}
-
-fn register_third(bench: &mut Bench) -> Result<(), Stop> {
-    let alloc = bench.alloc;
     let third: HelperFn = Box::new(
         alloc,
         move |h: &Helper, _data: &Context, _changed: &Option<&Context>, _strict: bool| -> FnSteps
@@ -52,17 +45,7 @@ fn register_third(bench: &mut Bench) -> Result<(), Stop> {
                 (λ e. refused_for e ≡ out_of_memory) }
         { said(alloc, "3rd helper: ", h) },
     )?;
-    put(bench, "closure-helper", FnHelper::new(third))
-}
-
-fn put(bench: &mut Bench, name: &str, function: FnHelper) -> Result<(), Stop> {
-    let entry = HelperEntry::Function(function);
-    Ok(bench.registry.register_helper(name, entry)?)
-}
-
-fn register_renamed(bench: &mut Bench) -> Answer {
-    let alloc = bench.alloc;
-    let f: DecoratorFn = Box::new(
+    let fourth: DecoratorFn = Box::new(
         alloc,
         move |_d: &Decorator, _data: &Context, _changed: &Option<
             &Context,
@@ -73,6 +56,39 @@ fn register_renamed(bench: &mut Bench) -> Answer {
                 (λ e. refused_for e ≡ out_of_memory) }
         { renamed(alloc) },
     )?;
-    let entry = DecoratorEntry::Function(FnDecorator::new(f));
-    shown(alloc, bench.registry.register_decorator("renamed", entry))
+    put(
+        &mut bench,
+        "simple-helper",
+        HelperEntry::Own(Box::new(alloc, first)?),
+    )?;
+    put(
+        &mut bench,
+        "another-simple-helper",
+        HelperEntry::Function(FnHelper::new(second)),
+    )?;
+    put(
+        &mut bench,
+        "closure-helper",
+        HelperEntry::Function(FnHelper::new(third)),
+    )?;
+    decorate(
+        &mut bench,
+        "renamed",
+        DecoratorEntry::Function(FnDecorator::new(fourth)),
+    )?;
+    renders(&bench, text(step, "source")?)
+}
+
+fn put(bench: &mut Bench, name: &str, helper: HelperEntry) -> Result<(), Stop> {
+    Ok(bench.registry.register_helper(name, helper)?)
+}
+
+fn decorate(bench: &mut Bench, name: &str, decorator: DecoratorEntry) -> Result<(), Stop> {
+    Ok(bench.registry.register_decorator(name, decorator)?)
+}
+
+fn renders(bench: &Bench, source: &str) -> Answer {
+    let (registry, data) = (&bench.registry, &bench.data);
+    let answer = registry.render_template_with_context(source, data, &Discard, &mut NoFiles);
+    shown(bench.alloc, answer)
 }

@@ -9,6 +9,7 @@ use crate::made::parameter::parameter_of;
 use crate::made::tree::{compiled, tree_of};
 use crate::made::view::decorator_of;
 use crate::state::context_of;
+use crate::steps::functions;
 use crate::strangers::rendered_alike;
 use handlebars::{
     Context, Decorator, Expand, JsonValue, NoFiles, PathAndJson, RenderError, RenderErrorReason,
@@ -33,6 +34,7 @@ pub fn answer(bench: &mut Bench, call: &str, step: &JsonValue) -> Answer {
         "include" => include(bench, step),
         "expand" => expand(bench, step),
         "expand_as_name" => expand_as_name(bench, step),
+        "with_functions" => functions::rendered(bench.alloc, step),
         _ => Err(Stop::Call),
     }
 }
