@@ -1,54 +1,91 @@
 //! What a step answers, as a text.
 
-use crate::fields::Stop;
 use handlebars::RenderError;
-use std::alloc::{AllocError, Global};
+use std::alloc::{AllocError, AllocFailed, Global};
 use std::fmt::{Debug, Display};
+
+/// Why a step has no answer.
+#[derive(Clone, Copy)]
+pub enum Stop {
+    OutOfMemory,
+    /// A field that it needs is missing or wrong.
+    Field,
+    /// No call has the name, or the call is not to be asked here.
+    Call,
+}
+
+impl Stop {
+    /// What is said of it.
+    pub fn text(self) -> &'static str {
+        match self {
+            Stop::OutOfMemory => "out of memory",
+            Stop::Field => "a field is missing or wrong",
+            Stop::Call => "there is no such call",
+        }
+    }
+}
+
+impl From<AllocError> for Stop {
+    fn from(_e: AllocError) -> Self {
+        Stop::OutOfMemory
+    }
+}
+
+impl<T: Drop> From<AllocFailed<T>> for Stop {
+    fn from(_e: AllocFailed<T>) -> Self {
+        Stop::OutOfMemory
+    }
+}
 
 /// The text that is compared, or why there is none.
 pub type Answer = Result<String, Stop>;
 
+/// A text that is an answer.
+pub fn kept(text: Result<String, AllocError>) -> Answer {
+    text.map_err(Stop::from)
+}
+
 /// What a value is, by its constructors.
 pub fn shown<T: Debug + Drop>(alloc: Global, value: T) -> Answer {
-    Ok(debugged(alloc, value)?)
+    kept(format!(in alloc; "{value:?}"))
 }
 
 /// What a value is printed as.
 pub fn printed<T: Display + Drop>(alloc: Global, value: T) -> Answer {
-    Ok(displayed(alloc, value)?)
+    kept(format!(in alloc; "{value}"))
 }
 
-/// What a value with several lifetimes is, by its constructors. The borrow checker covers no such value where the signature
-/// names `'static`, as that of `shown` does by the type of its error.
-pub fn debugged<T: Debug + Drop>(alloc: Global, value: T) -> Result<String, AllocError> {
-    format!(in alloc; "{value:?}")
-}
-
-/// What such a value is printed as.
-pub fn displayed<T: Display + Drop>(alloc: Global, value: T) -> Result<String, AllocError> {
-    format!(in alloc; "{value}")
+/// What a value that was made is, by its constructors.
+pub fn shown_if<T: Debug + Drop>(alloc: Global, made: Result<T, Stop>) -> Answer {
+    match made {
+        Ok(value) => shown(alloc, value),
+        Err(stop) => Err(stop),
+    }
 }
 
 /// What there is to say of a call without an answer.
 pub fn done(alloc: Global) -> Answer {
-    Ok(String::from_str(alloc, "()")?)
+    shown(alloc, ())
+}
+
+/// The same, if nothing stopped it.
+pub fn done_if(alloc: Global, made: Result<(), Stop>) -> Answer {
+    shown_if(alloc, made)
 }
 
 /// What an error says: its reason, its line, its column and its name, by their constructors.
 pub fn said(alloc: Global, error: &RenderError) -> Answer {
-    let said = (
-        error.reason(),
-        error.line_no,
-        error.column_no,
-        &error.template_name,
-    );
-    Ok(debugged(alloc, said)?)
+    let place = (error.line_no, error.column_no);
+    shown(
+        alloc,
+        (error.reason(), place.0, place.1, &error.template_name),
+    )
 }
 
 /// The error that a call is refused with, and what it says.
 pub fn refused<T: Drop>(alloc: Global, answer: Result<T, RenderError>) -> Answer {
     match answer {
-        Ok(_) => Ok(String::from_str(alloc, "no error")?),
+        Ok(_) => printed(alloc, "no error"),
         Err(error) => said(alloc, &error),
     }
 }

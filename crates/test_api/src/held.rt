@@ -1,6 +1,6 @@
-//! Values that are let go by one call.
+//! Values that are made, and where they are put.
 
-use crate::fields::Stop;
+use crate::answer::Stop;
 
 /// A value that is let go by one call, whatever it is made of.
 pub struct Held<T> {
@@ -21,10 +21,45 @@ impl<T> Held<T> {
     }
 }
 
-/// The value of an answer, or this stop.
-pub fn taken<T: Drop, E: Drop>(answer: Result<T, E>, stop: Stop) -> Result<T, Stop> {
+/// The value of an answer. Where there is none, what it was asked of is wrong.
+pub fn taken<T: Drop, E: Drop>(answer: Result<T, E>) -> Result<T, Stop> {
     match answer {
         Ok(value) => Ok(value),
-        Err(_) => Err(stop),
+        Err(_) => Err(Stop::Field),
+    }
+}
+
+/// The value of an answer that only memory can be wanting for.
+pub fn had<T: Drop, E: Drop>(answer: Result<T, E>) -> Result<T, Stop> {
+    match answer {
+        Ok(value) => Ok(value),
+        Err(_) => Err(Stop::OutOfMemory),
+    }
+}
+
+/// Appends what was made.
+pub fn push<T: Drop>(all: &mut Vec<T>, made: Result<T, Stop>) -> Result<(), Stop> {
+    match made {
+        Ok(value) => had(all.push(value)),
+        Err(stop) => Err(stop),
+    }
+}
+
+/// Puts what was made in the place.
+pub fn put<T: Drop>(place: &mut T, made: Result<T, Stop>) -> Result<(), Stop> {
+    match made {
+        Ok(value) => {
+            *place = value;
+            Ok(())
+        }
+        Err(stop) => Err(stop),
+    }
+}
+
+/// What was made, if all else was made too.
+pub fn if_made<T: Drop>(value: T, all: Result<(), Stop>) -> Result<T, Stop> {
+    match all {
+        Ok(()) => Ok(value),
+        Err(stop) => Err(stop),
     }
 }

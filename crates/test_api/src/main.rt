@@ -3,8 +3,8 @@
 #![tactic(auto)]
 
 mod answer;
-mod bench;
 mod caller;
+mod calls;
 mod fields;
 mod held;
 mod made;

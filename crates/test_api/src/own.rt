@@ -1,8 +1,9 @@
 //! Parts of its own that a script registers.
 
-use crate::fields::Stop;
+use crate::answer::Stop;
+use crate::held::had;
 use handlebars::{DecoratorDef, EscapeFn, HelperDef};
-use std::alloc::{AllocError, Global};
+use std::alloc::Global;
 use std::collections::VecDeque;
 
 /// The parts that a script has still to register, in the order of its steps.
@@ -31,27 +32,27 @@ impl Own {
         }
     }
 
-    pub fn add_helper(&mut self, helper: Box<dyn HelperDef>) -> Result<(), AllocError> {
-        Ok(self.helpers.push_back(helper)?)
+    pub fn add_helper(&mut self, helper: Box<dyn HelperDef>) -> Result<(), Stop> {
+        had(self.helpers.push_back(helper))
     }
 
-    pub fn add_decorator(&mut self, decorator: Box<dyn DecoratorDef>) -> Result<(), AllocError> {
-        Ok(self.decorators.push_back(decorator)?)
+    pub fn add_decorator(&mut self, decorator: Box<dyn DecoratorDef>) -> Result<(), Stop> {
+        had(self.decorators.push_back(decorator))
     }
 
-    pub fn add_escape(&mut self, escape: Box<dyn EscapeFn>) -> Result<(), AllocError> {
-        Ok(self.escapes.push_back(escape)?)
+    pub fn add_escape(&mut self, escape: Box<dyn EscapeFn>) -> Result<(), Stop> {
+        had(self.escapes.push_back(escape))
     }
 
-    pub fn next_helper(&mut self) -> Result<Box<dyn HelperDef>, Stop> {
-        self.helpers.pop_front().ok_or(Stop::Field("part"))
+    pub fn next_helper(&mut self) -> Option<Box<dyn HelperDef>> {
+        self.helpers.pop_front()
     }
 
-    pub fn next_decorator(&mut self) -> Result<Box<dyn DecoratorDef>, Stop> {
-        self.decorators.pop_front().ok_or(Stop::Field("part"))
+    pub fn next_decorator(&mut self) -> Option<Box<dyn DecoratorDef>> {
+        self.decorators.pop_front()
     }
 
-    pub fn next_escape(&mut self) -> Result<Box<dyn EscapeFn>, Stop> {
-        self.escapes.pop_front().ok_or(Stop::Field("part"))
+    pub fn next_escape(&mut self) -> Option<Box<dyn EscapeFn>> {
+        self.escapes.pop_front()
     }
 }

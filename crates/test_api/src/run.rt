@@ -1,6 +1,5 @@
 //! A run of the program.
 
-use crate::fields::Stop;
 use crate::script::differs;
 use handlebars::JsonValue;
 use handlebars_rows::failure::Failure;
@@ -62,7 +61,7 @@ fn run_scripts<R: Files + Print + AllocGlobal + Clone + Drop>(
     let mut differing = 0u64;
     let mut report = String::new(rt.alloc());
     for script in scripts {
-        if differs(rt, script, &mut report).map_err(failure_of)? {
+        if differs(rt, script, &mut report)? {
             differing = differing.saturating_add(1);
         }
     }
@@ -70,11 +69,4 @@ fn run_scripts<R: Files + Print + AllocGlobal + Clone + Drop>(
     println!(rt; "{path}: {differing} of {count} scripts differ").map_err(Failure::CannotWrite)?;
     print!(rt; "{report}").map_err(Failure::CannotWrite)?;
     Ok(differing == 0)
-}
-
-fn failure_of(stop: Stop) -> Failure {
-    match stop {
-        Stop::OutOfMemory => Failure::OutOfMemory,
-        Stop::Field(_) | Stop::Call => Failure::NoArray,
-    }
 }

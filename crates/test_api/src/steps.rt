@@ -19,10 +19,12 @@ mod scope;
 mod tree;
 mod value;
 
-use crate::answer::Answer;
-use crate::fields::{Stop, text};
-use crate::state::State;
+use crate::answer::{Answer, Stop};
+use crate::calls::lacking;
+use crate::fields::text;
+use crate::state::{Given, State};
 use handlebars::JsonValue;
+use std::alloc::Global;
 use std::rt::Files;
 
 /// What the call of a step answers: the field `do` has its group and its name.
@@ -31,7 +33,8 @@ pub fn answer<R: Files + AllocGlobal + Clone + Drop>(
     state: &mut State,
     step: &JsonValue,
 ) -> Answer {
-    match text(step, "do")?.split_once('.') {
+    match text(step, "do").split_once('.') {
+        Some(_) if lacking(step).is_some() => Err(Stop::Field),
         Some((group, call)) => of_group(rt, state, group, call, step),
         None => Err(Stop::Call),
     }
@@ -44,32 +47,84 @@ fn of_group<R: Files + AllocGlobal + Clone + Drop>(
     call: &str,
     step: &JsonValue,
 ) -> Answer {
+    let alloc = rt.alloc();
     match group {
-        "file" => file::answer(rt, state, call, step),
-        "rc" => rc::answer(state, call, step),
-        "blocks" => blocks::answer(state, call, step),
-        "scope" => scope::answer(&mut state.scopes, call, step),
-        "data" => data::answer(state, call, step),
-        "error" => error::answer(&mut state.kept, call, step),
-        "pieces" => pieces::answer(state, call, step),
-        "parts" => parts::answer(&mut state.bench, &mut state.own, call, step),
-        _ => of_bench(state, group, call, step),
+        "file" => file::answer(
+            rt,
+            &mut state.registry,
+            &state.data,
+            &mut state.files,
+            call,
+            step,
+        ),
+        "registry" => registry::answer(alloc, &mut state.registry, call, step),
+        "parts" => parts::answer(alloc, &mut state.registry, &mut state.own, call, step),
+        "scope" => scope::answer(alloc, &mut state.scopes, call, step),
+        "data" => data::answer(alloc, &mut state.data, &mut state.copy, call, step),
+        "error" => error::answer(alloc, &mut state.error, call, step),
+        "line" => line::answer(alloc, &mut state.rc, &mut state.out, call, step),
+        "rc" | "blocks" => of_context(alloc, state, group, call, step),
+        "render" | "element" | "pieces" | "markup" => {
+            of_rendering(alloc, state, group, call, step)
+        }
+        _ => of_values(alloc, group, call, step),
     }
 }
 
-// A group of calls that work with registry, data, render context and output.
-fn of_bench(state: &mut State, group: &str, call: &str, step: &JsonValue) -> Answer {
-    let bench = &mut state.bench;
+fn of_context(
+    alloc: Global,
+    state: &mut State,
+    group: &str,
+    call: &str,
+    step: &JsonValue,
+) -> Answer {
     match group {
-        "registry" => registry::answer(bench, call, step),
-        "render" => render::answer(bench, call, step),
-        "element" => elements::answer(bench, call, step),
-        "line" => line::answer(bench, call, step),
-        "markup" => markup::answer(bench, call, step),
-        "tree" => tree::answer(bench.alloc, call, step),
-        "value" => value::answer(bench.alloc, call, step),
-        "output" => output::answer(bench.alloc, call, step),
-        "reason" => reason::answer(bench.alloc, call, step),
+        "rc" => rc::answer(
+            alloc,
+            &state.data,
+            &mut state.rc,
+            &mut state.looked_up,
+            call,
+            step,
+        ),
+        _ => blocks::answer(
+            alloc,
+            &state.data,
+            &mut state.rc,
+            &mut state.scopes,
+            call,
+            step,
+        ),
+    }
+}
+
+fn of_rendering(
+    alloc: Global,
+    state: &mut State,
+    group: &str,
+    call: &str,
+    step: &JsonValue,
+) -> Answer {
+    let given = Given {
+        alloc,
+        registry: &state.registry,
+        data: &state.data,
+    };
+    match group {
+        "render" => render::answer(given, &mut state.rc, &mut state.out, call, step),
+        "element" => elements::answer(given, &mut state.rc, call, step),
+        "pieces" => pieces::answer(given, &mut state.pieces, call, step),
+        _ => markup::answer(alloc, given.registry, call, step),
+    }
+}
+
+// A group of calls of values that the step describes.
+fn of_values(alloc: Global, group: &str, call: &str, step: &JsonValue) -> Answer {
+    match group {
+        "tree" => tree::answer(alloc, call, step),
+        "value" => value::answer(alloc, call, step),
+        "output" => output::answer(alloc, call, step),
+        "reason" => reason::answer(alloc, call, step),
         _ => Err(Stop::Call),
     }
 }

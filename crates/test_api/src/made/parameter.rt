@@ -1,95 +1,132 @@
 //! Parameters, and what a tag says.
 
-use crate::fields::{Stop, flag, items, owned, value};
-use crate::held::taken;
+use crate::answer::Stop;
+use crate::fields::{flag, items, owned, text};
+use crate::held::{had, if_made, push, put, taken};
 use handlebars::template::{BlockParam, ExpressionSpec, Parameter};
 use handlebars::{JsonValue, Path};
-use std::alloc::Global;
+use std::alloc::{AllocError, Global};
 use std::collections::BTreeMap;
 
 /// A parameter: of a text the one that it is read as, and else a name, a path or a literal by hand.
 pub fn parameter_of(alloc: Global, it: &JsonValue) -> Result<Parameter, Stop> {
     match it.as_str() {
-        Some(text) => taken(Parameter::parse(alloc, text), Stop::Field("parameter")),
+        Some(text) => taken(Parameter::parse(alloc, text)),
         None => parameter_by_hand(alloc, it),
+    }
+}
+
+/// The parameter of a field.
+pub fn parameter_at(alloc: Global, it: &JsonValue, name: &str) -> Result<Parameter, Stop> {
+    match it.get(name) {
+        Some(parameter) => parameter_of(alloc, parameter),
+        None => Err(Stop::Field),
     }
 }
 
 fn parameter_by_hand(alloc: Global, it: &JsonValue) -> Result<Parameter, Stop> {
     if let Some(literal) = it.get("literal") {
-        return Ok(Parameter::Literal(literal.clone()?));
+        return had(literal.clone().map(Parameter::Literal));
     }
-    match (text_at(it, "name"), text_at(it, "path")) {
-        (Some(name), _) => Ok(Parameter::Name(owned(alloc, name)?)),
-        (None, Some(path)) => path_of(alloc, path),
-        (None, None) => Err(Stop::Field("name")),
+    match it.get("path") {
+        Some(_) => taken(Path::parse(alloc, text(it, "path")).map(Parameter::Path)),
+        None => had(owned(alloc, it, "name").map(Parameter::Name)),
     }
-}
-
-fn text_at<'s>(it: &'s JsonValue, name: &'static str) -> Option<&'s str> {
-    it.get(name).and_then(JsonValue::as_str)
-}
-
-fn path_of(alloc: Global, text: &str) -> Result<Parameter, Stop> {
-    let path = taken(Path::parse(alloc, text), Stop::Field("path"))?;
-    Ok(Parameter::Path(path))
 }
 
 /// The parameters of an array.
 pub fn parameters_of(alloc: Global, all: &[JsonValue]) -> Result<Vec<Parameter>, Stop> {
     let mut parameters = Vec::new(alloc);
+    let made = push_parameters(alloc, &mut parameters, all);
+    if_made(parameters, made)
+}
+
+fn push_parameters(
+    alloc: Global,
+    parameters: &mut Vec<Parameter>,
+    all: &[JsonValue],
+) -> Result<(), Stop> {
     for it in all {
-        parameters.push(parameter_of(alloc, it)?)?;
+        push(parameters, parameter_of(alloc, it))?;
     }
-    Ok(parameters)
+    Ok(())
 }
 
 /// The pairs of the field `hash`.
 pub fn pairs_of(alloc: Global, it: &JsonValue) -> Result<BTreeMap<String, Parameter>, Stop> {
     let mut pairs = BTreeMap::new(alloc);
+    let made = put_pairs(alloc, &mut pairs, it);
+    if_made(pairs, made)
+}
+
+fn put_pairs(
+    alloc: Global,
+    pairs: &mut BTreeMap<String, Parameter>,
+    it: &JsonValue,
+) -> Result<(), Stop> {
     if let Some(members) = it.get("hash").and_then(JsonValue::as_object) {
         for (key, value) in members.iter() {
-            put_pair(&mut pairs, key, parameter_of(alloc, value)?)?;
+            put_pair(pairs, key.clone(), parameter_of(alloc, value))?;
         }
     }
-    Ok(pairs)
+    Ok(())
 }
 
 fn put_pair(
     pairs: &mut BTreeMap<String, Parameter>,
-    key: &String,
-    value: Parameter,
+    key: Result<String, AllocError>,
+    value: Result<Parameter, Stop>,
 ) -> Result<(), Stop> {
-    let key = key.clone()?;
-    pairs.insert(key, value)?;
-    Ok(())
+    match (key, value) {
+        (Ok(key), Ok(value)) => had(pairs.insert(key, value)).map(let_go),
+        (_, Err(stop)) => Err(stop),
+        (Err(AllocError), _) => Err(Stop::OutOfMemory),
+    }
 }
+
+fn let_go<T: Drop>(_value: T) {}
 
 /// What a tag says: its `name`, `params`, `hash` and names to `bind`.
 pub fn spec_of(alloc: Global, it: &JsonValue) -> Result<ExpressionSpec, Stop> {
-    let name = parameter_of(alloc, value(it, "name")?)?;
-    let params = parameters_of(alloc, items(it, "params"))?;
-    let hash = pairs_of(alloc, it)?;
-    let block_param = binding_of(alloc, items(it, "bind"))?;
-    Ok(ExpressionSpec {
-        name,
-        params,
-        hash,
-        block_param,
+    let mut spec = ExpressionSpec {
+        name: Parameter::Literal(JsonValue::Null),
+        params: Vec::new(alloc),
+        hash: BTreeMap::new(alloc),
+        block_param: None,
         omit_pre_ws: flag(it, "omit_pre_ws"),
         omit_pro_ws: flag(it, "omit_pro_ws"),
-    })
+    };
+    let made = fill_spec(alloc, &mut spec, it);
+    if_made(spec, made)
+}
+
+fn fill_spec(alloc: Global, spec: &mut ExpressionSpec, it: &JsonValue) -> Result<(), Stop> {
+    put(&mut spec.name, parameter_at(alloc, it, "name"))?;
+    push_parameters(alloc, &mut spec.params, items(it, "params"))?;
+    put_pairs(alloc, &mut spec.hash, it)?;
+    put(&mut spec.block_param, binding_of(alloc, items(it, "bind")))
 }
 
 // One name, or two.
 fn binding_of(alloc: Global, names: &[JsonValue]) -> Result<Option<BlockParam>, Stop> {
     match names {
         [] => Ok(None),
-        [name] => Ok(Some(BlockParam::Single(parameter_of(alloc, name)?))),
-        [first, second] => {
-            let pair = (parameter_of(alloc, first)?, parameter_of(alloc, second)?);
-            Ok(Some(BlockParam::Pair(pair)))
-        }
-        _ => Err(Stop::Field("bind")),
+        [name] => parameter_of(alloc, name).map(single),
+        [first, second] => pair(parameter_of(alloc, first), parameter_of(alloc, second)),
+        _ => Err(Stop::Field),
+    }
+}
+
+fn single(name: Parameter) -> Option<BlockParam> {
+    Some(BlockParam::Single(name))
+}
+
+fn pair(
+    first: Result<Parameter, Stop>,
+    second: Result<Parameter, Stop>,
+) -> Result<Option<BlockParam>, Stop> {
+    match (first, second) {
+        (Ok(first), Ok(second)) => Ok(Some(BlockParam::Pair((first, second)))),
+        (Err(stop), _) | (_, Err(stop)) => Err(stop),
     }
 }

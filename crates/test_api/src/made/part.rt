@@ -1,13 +1,15 @@
 //! Helpers, decorators and escape functions of a script's own.
 
-use crate::fields::{Stop, items, owned, text};
+use crate::answer::Stop;
+use crate::fields::{items, number, owned, text};
+use crate::held::{had, if_made, push, put};
 use crate::state::context_of;
 use handlebars::{HelperValue, JsonValue};
 use handlebars_parts::escape::Doubled;
 use handlebars_parts::helpers::Distance;
 use handlebars_parts::refusing::Refusing;
 use handlebars_parts::scripted::{ScriptedAction, ScriptedDecorator, ScriptedHelper, ScriptedStep};
-use std::alloc::Global;
+use std::alloc::{AllocError, Global};
 use std::io::ErrorKind;
 
 /// A part that a script registers.
@@ -27,8 +29,8 @@ const REFUSING: Refusing = Refusing {
 
 /// The part that a step registers, if it registers one of its own.
 pub fn part_of(alloc: Global, step: &JsonValue) -> Result<Option<Part>, Stop> {
-    match text(step, "do")? {
-        "parts.helper" => Ok(Some(helper_part(alloc, step)?)),
+    match text(step, "do") {
+        "parts.helper" => helper_part(alloc, step).map(Some),
         "parts.decorator" => decorator_part(alloc, step),
         "parts.escape" => escape_part(alloc, step),
         _ => Ok(None),
@@ -36,113 +38,142 @@ pub fn part_of(alloc: Global, step: &JsonValue) -> Result<Option<Part>, Stop> {
 }
 
 fn helper_part(alloc: Global, step: &JsonValue) -> Result<Part, Stop> {
-    match step.get("part").and_then(JsonValue::as_str) {
-        None => Ok(Part::Helper(helper_of(alloc, step)?)),
-        Some("distance") => Ok(Part::Distance(Distance { alloc })),
-        Some("refusing") => Ok(Part::RefusingHelper(REFUSING)),
-        Some(_) => Err(Stop::Field("part")),
+    match text(step, "part") {
+        "" => helper_of(alloc, step).map(Part::Helper),
+        "distance" => Ok(Part::Distance(Distance { alloc })),
+        "refusing" => Ok(Part::RefusingHelper(REFUSING)),
+        _ => Err(Stop::Field),
     }
 }
 
 fn decorator_part(alloc: Global, step: &JsonValue) -> Result<Option<Part>, Stop> {
-    match step.get("part").and_then(JsonValue::as_str) {
-        None => Ok(Some(Part::Decorator(decorator_of(alloc, step)?))),
-        Some("inline") => Ok(None),
-        Some("refusing") => Ok(Some(Part::RefusingDecorator(REFUSING))),
-        Some(_) => Err(Stop::Field("part")),
+    match text(step, "part") {
+        "" => decorator_of(alloc, step).map(own_decorator),
+        "inline" => Ok(None),
+        "refusing" => Ok(Some(Part::RefusingDecorator(REFUSING))),
+        _ => Err(Stop::Field),
     }
 }
 
+fn own_decorator(decorator: ScriptedDecorator) -> Option<Part> {
+    Some(Part::Decorator(decorator))
+}
+
 fn escape_part(alloc: Global, step: &JsonValue) -> Result<Option<Part>, Stop> {
-    match text(step, "part")? {
+    match text(step, "part") {
         "html" => Ok(None),
         "plain" => Ok(None),
         "doubled" => Ok(Some(Part::Escape(Doubled { alloc }))),
         "refusing" => Ok(Some(Part::RefusingEscape(REFUSING))),
-        _ => Err(Stop::Field("part")),
+        _ => Err(Stop::Field),
     }
 }
 
-/// The helper that is described.
-pub fn helper_of(alloc: Global, it: &JsonValue) -> Result<ScriptedHelper, Stop> {
-    let steps = steps_of(alloc, it)?;
-    let offer = offer_of(it)?;
-    Ok(ScriptedHelper {
-        alloc,
-        steps,
-        offer,
-    })
+/// The helper of the field `helper`.
+pub fn helper_at(alloc: Global, step: &JsonValue) -> Result<ScriptedHelper, Stop> {
+    match step.get("helper") {
+        Some(helper) => helper_of(alloc, helper),
+        None => Err(Stop::Field),
+    }
 }
 
-fn decorator_of(alloc: Global, it: &JsonValue) -> Result<ScriptedDecorator, Stop> {
-    let actions = actions_of(alloc, items(it, "actions"))?;
-    Ok(ScriptedDecorator { alloc, actions })
+// The helper that is described.
+fn helper_of(alloc: Global, it: &JsonValue) -> Result<ScriptedHelper, Stop> {
+    let mut helper = ScriptedHelper {
+        alloc,
+        steps: None,
+        offer: HelperValue::NotOffered,
+    };
+    let made = fill_helper(alloc, &mut helper, it);
+    if_made(helper, made)
+}
+
+fn fill_helper(alloc: Global, helper: &mut ScriptedHelper, it: &JsonValue) -> Result<(), Stop> {
+    put(&mut helper.steps, steps_of(alloc, it))?;
+    put(&mut helper.offer, offer_of(it))
 }
 
 // The steps of the field `steps`, if there are any.
 fn steps_of(alloc: Global, it: &JsonValue) -> Result<Option<Vec<ScriptedStep>>, Stop> {
     match it.get("steps").and_then(JsonValue::as_array) {
-        Some(steps) => Ok(Some(all_steps(alloc, steps.as_slice())?)),
+        Some(all) => all_steps(alloc, all.as_slice()).map(Some),
         None => Ok(None),
     }
 }
 
 fn all_steps(alloc: Global, all: &[JsonValue]) -> Result<Vec<ScriptedStep>, Stop> {
     let mut steps = Vec::new(alloc);
+    let made = push_steps(alloc, &mut steps, all);
+    if_made(steps, made)
+}
+
+fn push_steps(alloc: Global, steps: &mut Vec<ScriptedStep>, all: &[JsonValue]) -> Result<(), Stop> {
     for it in all {
-        steps.push(step_of(alloc, it)?)?;
+        push(steps, step_of(alloc, it))?;
     }
-    Ok(steps)
+    Ok(())
 }
 
 fn step_of(alloc: Global, it: &JsonValue) -> Result<ScriptedStep, Stop> {
     if let Some(value) = it.get("body_at") {
-        return Ok(ScriptedStep::BodyAt(value.clone()?));
+        return had(value.clone().map(ScriptedStep::BodyAt));
     }
-    if let Some(index) = it.get("param").and_then(JsonValue::as_u64) {
-        return Ok(ScriptedStep::Param(index as usize));
+    if it.get("write").is_some() {
+        return had(owned(alloc, it, "write").map(ScriptedStep::Write));
     }
     match it.as_str() {
         Some("body") => Ok(ScriptedStep::Body),
         Some("inverse") => Ok(ScriptedStep::Inverse),
-        Some(_) => Err(Stop::Field("steps")),
-        None => Ok(ScriptedStep::Write(owned(alloc, text(it, "write")?)?)),
+        Some(_) => Err(Stop::Field),
+        None => Ok(ScriptedStep::Param(number(it, "param") as usize)),
     }
 }
 
 // The value of the field `value`; where that is missing, what `offer` says, `missing` or nothing.
 fn offer_of(it: &JsonValue) -> Result<HelperValue, Stop> {
     if let Some(value) = it.get("value") {
-        return Ok(HelperValue::Value(value.clone()?));
+        return had(value.clone().map(HelperValue::Value));
     }
-    match it.get("offer").and_then(JsonValue::as_str) {
-        Some("missing") => Ok(HelperValue::Missing),
-        Some(_) => Err(Stop::Field("offer")),
-        None => Ok(HelperValue::NotOffered),
+    match text(it, "offer") {
+        "missing" => Ok(HelperValue::Missing),
+        "" => Ok(HelperValue::NotOffered),
+        _ => Err(Stop::Field),
     }
 }
 
-// What a decorator does.
-fn actions_of(alloc: Global, all: &[JsonValue]) -> Result<Vec<ScriptedAction>, Stop> {
+fn decorator_of(alloc: Global, it: &JsonValue) -> Result<ScriptedDecorator, Stop> {
     let mut actions = Vec::new(alloc);
+    let made = push_actions(alloc, &mut actions, items(it, "actions"));
+    if_made(ScriptedDecorator { alloc, actions }, made)
+}
+
+fn push_actions(
+    alloc: Global,
+    actions: &mut Vec<ScriptedAction>,
+    all: &[JsonValue],
+) -> Result<(), Stop> {
     for it in all {
-        actions.push(action_of(alloc, it)?)?;
+        push(actions, action_of(alloc, it))?;
     }
-    Ok(actions)
+    Ok(())
 }
 
 fn action_of(alloc: Global, it: &JsonValue) -> Result<ScriptedAction, Stop> {
-    match text(it, "do")? {
-        "set_context" => Ok(ScriptedAction::SetContext(context_of(it, "data")?)),
-        "bind" => binding_of(alloc, it),
-        "unbind" => Ok(ScriptedAction::Unbind(owned(alloc, text(it, "name")?)?)),
-        "set_partial" => Ok(ScriptedAction::SetPartial(owned(alloc, text(it, "name")?)?)),
-        _ => Err(Stop::Field("do")),
+    match text(it, "do") {
+        "set_context" => context_of(it, "data").map(ScriptedAction::SetContext),
+        "bind" => binding_of(owned(alloc, it, "name"), owned(alloc, it, "to")),
+        "unbind" => had(owned(alloc, it, "name").map(ScriptedAction::Unbind)),
+        "set_partial" => had(owned(alloc, it, "name").map(ScriptedAction::SetPartial)),
+        _ => Err(Stop::Field),
     }
 }
 
-fn binding_of(alloc: Global, it: &JsonValue) -> Result<ScriptedAction, Stop> {
-    let local = owned(alloc, text(it, "name")?)?;
-    let registered = owned(alloc, text(it, "to")?)?;
-    Ok(ScriptedAction::Bind { local, registered })
+fn binding_of(
+    local: Result<String, AllocError>,
+    registered: Result<String, AllocError>,
+) -> Result<ScriptedAction, Stop> {
+    match (local, registered) {
+        (Ok(local), Ok(registered)) => Ok(ScriptedAction::Bind { local, registered }),
+        _ => Err(Stop::OutOfMemory),
+    }
 }

@@ -1,8 +1,10 @@
 //! Values with where they came from.
 
-use crate::fields::{Stop, items, owned, owned_all, text};
+use crate::answer::Stop;
+use crate::fields::{items, owned, owned_all};
+use crate::held::had;
 use handlebars::{JsonValue, PathAndJson, ScopedJson};
-use std::alloc::Global;
+use std::alloc::{AllocError, Global};
 
 /// A `constant` of the template, a value that is `derived`, one that is `found` in the data `at` a path, or none.
 pub fn scoped_of<'s>(alloc: Global, it: &'s JsonValue) -> Result<ScopedJson<'s>, Stop> {
@@ -10,19 +12,46 @@ pub fn scoped_of<'s>(alloc: Global, it: &'s JsonValue) -> Result<ScopedJson<'s>,
         return Ok(ScopedJson::Constant(value));
     }
     if let Some(value) = it.get("derived") {
-        return Ok(ScopedJson::from(value.clone()?));
+        return had(value.clone().map(ScopedJson::Derived));
     }
     match it.get("found") {
-        Some(value) => Ok(ScopedJson::Context(value, owned_all(alloc, items(it, "at"))?)),
+        Some(value) => found_at(value, owned_all(alloc, items(it, "at"))),
         None => Ok(ScopedJson::Missing),
+    }
+}
+
+fn found_at<'s>(
+    value: &'s JsonValue,
+    path: Result<Vec<String>, AllocError>,
+) -> Result<ScopedJson<'s>, Stop> {
+    match path {
+        Ok(path) => Ok(ScopedJson::Context(value, path)),
+        Err(AllocError) => Err(Stop::OutOfMemory),
     }
 }
 
 /// Such a value with its path as written, the field `path`, if it has one.
 pub fn given_of<'s>(alloc: Global, it: &'s JsonValue) -> Result<PathAndJson<'s>, Stop> {
-    let scoped = scoped_of(alloc, it)?;
     match it.get("path") {
-        Some(_) => Ok(PathAndJson::new(Some(owned(alloc, text(it, "path")?)?), scoped)),
-        None => Ok(PathAndJson::new(None, scoped)),
+        Some(_) => written_as(owned(alloc, it, "path"), scoped_of(alloc, it)),
+        None => written_as_none(scoped_of(alloc, it)),
+    }
+}
+
+fn written_as<'s>(
+    path: Result<String, AllocError>,
+    value: Result<ScopedJson<'s>, Stop>,
+) -> Result<PathAndJson<'s>, Stop> {
+    match (path, value) {
+        (Ok(path), Ok(value)) => Ok(PathAndJson::new(Some(path), value)),
+        (_, Err(stop)) => Err(stop),
+        (Err(AllocError), _) => Err(Stop::OutOfMemory),
+    }
+}
+
+fn written_as_none<'s>(value: Result<ScopedJson<'s>, Stop>) -> Result<PathAndJson<'s>, Stop> {
+    match value {
+        Ok(value) => Ok(PathAndJson::new(None, value)),
+        Err(stop) => Err(stop),
     }
 }

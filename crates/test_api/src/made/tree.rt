@@ -1,68 +1,83 @@
 //! Trees and their elements.
 
-use crate::fields::{Stop, flag, items, owned, text, value};
-use crate::held::{Held, taken};
+use crate::answer::Stop;
+use crate::fields::{flag, items, owned, text, text_at};
+use crate::held::{Held, had, if_made, push, put, taken};
 use crate::made::parameter::spec_of;
 use handlebars::JsonValue;
 use handlebars::template::{
-    DecoratorTemplate, HelperTemplate, Template, TemplateElement, TemplateMapping,
+    DecoratorTemplate, ExpressionSpec, HelperTemplate, Template, TemplateElement, TemplateMapping,
 };
-use std::alloc::Global;
+use std::alloc::{AllocError, Global};
 
 /// The tree of a source.
 pub fn compiled(alloc: Global, source: &str) -> Result<Held<Template>, Stop> {
-    let value = taken(Template::compile(alloc, source), Stop::Field("source"))?;
-    Ok(Held { value })
+    match taken(Template::compile(alloc, source)) {
+        Ok(value) => Ok(Held { value }),
+        Err(stop) => Err(stop),
+    }
 }
 
 /// The tree of the field `source`, or the one of `tree`, by hand.
 pub fn tree_of(alloc: Global, step: &JsonValue) -> Result<Held<Template>, Stop> {
-    match step.get("source").and_then(JsonValue::as_str) {
-        Some(source) => tree_of_source(alloc, source, step),
-        None => tree_by_hand(alloc, value(step, "tree")?),
+    let mut tree = Held {
+        value: Template::new(alloc),
+    };
+    let made = fill_tree(alloc, &mut tree.value, step);
+    if_made(tree, made)
+}
+
+fn fill_tree(alloc: Global, tree: &mut Template, step: &JsonValue) -> Result<(), Stop> {
+    match step.get("tree") {
+        Some(by_hand) => fill_by_hand(alloc, tree, by_hand),
+        None => fill_by_source(alloc, tree, step),
     }
 }
 
 // The inclusion that is its first element has the indentation of `indent`, if there is one.
-fn tree_of_source(alloc: Global, source: &str, step: &JsonValue) -> Result<Held<Template>, Stop> {
-    let mut tree = compiled(alloc, source)?;
-    if step.get("indent").is_some() {
-        let indent = owned(alloc, text(step, "indent")?)?;
-        put_indent(&mut tree.value, indent)?;
+fn fill_by_source(alloc: Global, tree: &mut Template, step: &JsonValue) -> Result<(), Stop> {
+    put(tree, taken(Template::compile(alloc, text(step, "source"))))?;
+    match step.get("indent") {
+        Some(_) => put_indent(&mut tree.elements, owned(alloc, step, "indent")),
+        None => Ok(()),
     }
-    Ok(tree)
 }
 
-fn put_indent(tree: &mut Template, indent: String) -> Result<(), Stop> {
-    match tree.elements.get_mut(0) {
+fn put_indent(
+    elements: &mut Vec<TemplateElement>,
+    indent: Result<String, AllocError>,
+) -> Result<(), Stop> {
+    match elements.get_mut(0) {
         Some(TemplateElement::PartialExpression(tag)) => {
-            tag.indent = Some(indent);
-            Ok(())
+            put(&mut tag.indent, had(indent.map(Some)))
         }
-        _ => Err(Stop::Field("indent")),
+        _ => Err(Stop::Field),
     }
 }
 
-fn tree_by_hand(alloc: Global, it: &JsonValue) -> Result<Held<Template>, Stop> {
-    let mut tree = Held {
-        value: Template::new(alloc),
-    };
-    put_elements(alloc, &mut tree.value, it)?;
-    put_mapping(&mut tree.value, it)?;
-    put_name(alloc, &mut tree.value, it)?;
-    Ok(tree)
+fn fill_by_hand(alloc: Global, tree: &mut Template, it: &JsonValue) -> Result<(), Stop> {
+    push_elements(alloc, &mut tree.elements, items(it, "elements"))?;
+    push_mapping(&mut tree.mapping, items(it, "mapping"))?;
+    match it.get("name") {
+        Some(_) => put(&mut tree.name, had(owned(alloc, it, "name").map(Some))),
+        None => Ok(()),
+    }
 }
 
-fn put_elements(alloc: Global, tree: &mut Template, it: &JsonValue) -> Result<(), Stop> {
-    for element in items(it, "elements") {
-        tree.elements.push(element_of(alloc, element)?)?;
+fn push_elements(
+    alloc: Global,
+    elements: &mut Vec<TemplateElement>,
+    all: &[JsonValue],
+) -> Result<(), Stop> {
+    for it in all {
+        push(elements, element_of(alloc, it))?;
     }
     Ok(())
 }
 
-fn put_mapping(tree: &mut Template, it: &JsonValue) -> Result<(), Stop> {
-    for place in items(it, "mapping") {
-        tree.mapping.push(place_of(place)?)?;
+fn push_mapping(mapping: &mut Vec<TemplateMapping>, all: &[JsonValue]) -> Result<(), Stop> {
+    for place in all {
+        push(mapping, place_of(place))?;
     }
     Ok(())
 }
@@ -70,50 +85,84 @@ fn put_mapping(tree: &mut Template, it: &JsonValue) -> Result<(), Stop> {
 // A line and a column.
 fn place_of(place: &JsonValue) -> Result<TemplateMapping, Stop> {
     match place.as_array().map(Vec::as_slice) {
-        Some([line, column]) => match (line.as_u64(), column.as_u64()) {
-            (Some(line), Some(column)) => Ok(TemplateMapping(line as usize, column as usize)),
-            _ => Err(Stop::Field("mapping")),
-        },
-        _ => Err(Stop::Field("mapping")),
+        Some([line, column]) => Ok(TemplateMapping(index_of(line), index_of(column))),
+        _ => Err(Stop::Field),
     }
 }
 
-fn put_name(alloc: Global, tree: &mut Template, it: &JsonValue) -> Result<(), Stop> {
-    if it.get("name").is_some() {
-        tree.name = Some(owned(alloc, text(it, "name")?)?);
-    }
-    Ok(())
+fn index_of(number: &JsonValue) -> usize {
+    number.as_u64().unwrap_or(0) as usize
 }
 
-/// An element by hand, of a `kind`.
-pub fn element_of(alloc: Global, it: &JsonValue) -> Result<TemplateElement, Stop> {
-    match text(it, "kind")? {
-        "comment" => Ok(TemplateElement::Comment(owned(alloc, text(it, "text")?)?)),
-        "expression" => Ok(TemplateElement::Expression(call_of(alloc, it)?)),
-        "html" => Ok(TemplateElement::HtmlExpression(call_of(alloc, it)?)),
-        "block" => Ok(TemplateElement::HelperBlock(call_of(alloc, it)?)),
-        "partial" => Ok(TemplateElement::PartialExpression(tag_of(alloc, it)?)),
-        "partial_block" => Ok(TemplateElement::PartialBlock(tag_of(alloc, it)?)),
-        "decorator" => Ok(TemplateElement::DecoratorExpression(tag_of(alloc, it)?)),
-        "decorator_block" => Ok(TemplateElement::DecoratorBlock(tag_of(alloc, it)?)),
-        _ => Err(Stop::Field("kind")),
+/// A tree of one element by hand, the one of the field `element`.
+pub fn tree_around(alloc: Global, step: &JsonValue) -> Result<Held<Template>, Stop> {
+    let mut tree = Held {
+        value: Template::new(alloc),
+    };
+    let made = push(&mut tree.value.elements, element_at(alloc, step));
+    if_made(tree, made)
+}
+
+/// The element of the field `element`.
+pub fn element_at(alloc: Global, step: &JsonValue) -> Result<TemplateElement, Stop> {
+    match step.get("element") {
+        Some(element) => element_of(alloc, element),
+        None => Err(Stop::Field),
+    }
+}
+
+// An element by hand, of a `kind`.
+fn element_of(alloc: Global, it: &JsonValue) -> Result<TemplateElement, Stop> {
+    match text(it, "kind") {
+        "comment" => had(owned(alloc, it, "text").map(TemplateElement::Comment)),
+        "expression" => call_of(alloc, it).map(TemplateElement::Expression),
+        "html" => call_of(alloc, it).map(TemplateElement::HtmlExpression),
+        "block" => call_of(alloc, it).map(TemplateElement::HelperBlock),
+        "partial" => tag_of(alloc, it).map(TemplateElement::PartialExpression),
+        "partial_block" => tag_of(alloc, it).map(TemplateElement::PartialBlock),
+        "decorator" => tag_of(alloc, it).map(TemplateElement::DecoratorExpression),
+        "decorator_block" => tag_of(alloc, it).map(TemplateElement::DecoratorBlock),
+        _ => Err(Stop::Field),
     }
 }
 
 // A call, whose field `is_block` says whether it is a block, with the body of the source `body`.
 fn call_of(alloc: Global, it: &JsonValue) -> Result<Box<HelperTemplate>, Stop> {
-    let call = HelperTemplate::new(spec_of(alloc, it)?, flag(it, "is_block"), false);
-    let mut call = Box::new(alloc, call)?;
-    if it.get("body").is_some() {
-        let body = taken(
-            Template::compile(alloc, text(it, "body")?),
-            Stop::Field("body"),
-        )?;
-        call.template = Some(body);
+    match spec_of(alloc, it) {
+        Ok(spec) => boxed_call(
+            alloc,
+            HelperTemplate::new(spec, flag(it, "is_block"), false),
+            it,
+        ),
+        Err(stop) => Err(stop),
     }
-    Ok(call)
+}
+
+fn boxed_call(
+    alloc: Global,
+    mut call: HelperTemplate,
+    it: &JsonValue,
+) -> Result<Box<HelperTemplate>, Stop> {
+    match put_body(alloc, &mut call.template, it) {
+        Ok(()) => had(Box::new(alloc, call)),
+        Err(stop) => Err(stop),
+    }
+}
+
+fn put_body(alloc: Global, body: &mut Option<Template>, it: &JsonValue) -> Result<(), Stop> {
+    match text_at(it, "body") {
+        Some(source) => put(body, taken(Template::compile(alloc, source).map(Some))),
+        None => Ok(()),
+    }
 }
 
 fn tag_of(alloc: Global, it: &JsonValue) -> Result<Box<DecoratorTemplate>, Stop> {
-    Ok(Box::new(alloc, DecoratorTemplate::new(spec_of(alloc, it)?, false))?)
+    match spec_of(alloc, it).map(unindented) {
+        Ok(tag) => had(Box::new(alloc, tag)),
+        Err(stop) => Err(stop),
+    }
+}
+
+fn unindented(spec: ExpressionSpec) -> DecoratorTemplate {
+    DecoratorTemplate::new(spec, false)
 }

@@ -1,6 +1,8 @@
 //! What a call or a tag shows.
 
-use crate::fields::{Stop, items, text};
+use crate::answer::Stop;
+use crate::fields::{items, text, text_at};
+use crate::held::{had, push};
 use crate::made::scoped::given_of;
 use handlebars::{Decorator, Helper, JsonValue, PathAndJson, Template};
 use std::alloc::Global;
@@ -13,41 +15,59 @@ pub fn decorator_of<'s>(
     it: &'s JsonValue,
     block: Option<&'s Template>,
 ) -> Result<Decorator<'s>, Stop> {
-    let name = CowStr::Borrowed(text(it, "name")?);
-    let indent = match it.get("indent").and_then(JsonValue::as_str) {
-        Some(indent) => Some(CowStr::Borrowed(indent)),
-        None => None,
-    };
-    let params = params_of(alloc, items(it, "params"))?;
-    let pairs = pairs_of(alloc, it)?;
-    Ok(Decorator::new(name, params, pairs, block, indent))
+    let name = CowStr::Borrowed(text(it, "name"));
+    let indent = text_at(it, "indent").map(CowStr::Borrowed);
+    let (mut params, mut pairs) = (Vec::new(alloc), BTreeMap::new(alloc));
+    match put_given(alloc, &mut params, &mut pairs, it) {
+        Ok(()) => Ok(Decorator::new(name, params, pairs, block, indent)),
+        Err(stop) => Err(stop),
+    }
 }
 
 /// What a call shows: its `name`, `params` and `hash`.
 pub fn helper_of<'s>(alloc: Global, it: &'s JsonValue) -> Result<Helper<'s>, Stop> {
-    let name = CowStr::Borrowed(text(it, "name")?);
-    let params = params_of(alloc, items(it, "params"))?;
-    let pairs = pairs_of(alloc, it)?;
-    Ok(Helper::new(name, params, pairs, None, None, None, false))
-}
-
-fn params_of<'s>(alloc: Global, all: &'s [JsonValue]) -> Result<Vec<PathAndJson<'s>>, Stop> {
-    let mut params = Vec::new(alloc);
-    for it in all {
-        params.push(given_of(alloc, it)?)?;
+    let name = CowStr::Borrowed(text(it, "name"));
+    let (mut params, mut pairs) = (Vec::new(alloc), BTreeMap::new(alloc));
+    match put_given(alloc, &mut params, &mut pairs, it) {
+        Ok(()) => Ok(Helper::new(name, params, pairs, None, None, None, false)),
+        Err(stop) => Err(stop),
     }
-    Ok(params)
 }
 
-fn pairs_of<'s>(
+fn put_given<'s>(
     alloc: Global,
+    params: &mut Vec<PathAndJson<'s>>,
+    pairs: &mut BTreeMap<&'s str, PathAndJson<'s>>,
     it: &'s JsonValue,
-) -> Result<BTreeMap<&'s str, PathAndJson<'s>>, Stop> {
-    let mut pairs = BTreeMap::new(alloc);
+) -> Result<(), Stop> {
+    for param in items(it, "params") {
+        push(params, given_of(alloc, param))?;
+    }
+    put_pairs(alloc, pairs, it)
+}
+
+fn put_pairs<'s>(
+    alloc: Global,
+    pairs: &mut BTreeMap<&'s str, PathAndJson<'s>>,
+    it: &'s JsonValue,
+) -> Result<(), Stop> {
     if let Some(members) = it.get("hash").and_then(JsonValue::as_object) {
         for (key, value) in members.iter() {
-            pairs.insert(key.as_str(), given_of(alloc, value)?)?;
+            put_pair(pairs, key.as_str(), given_of(alloc, value))?;
         }
     }
-    Ok(pairs)
+    Ok(())
 }
+
+fn put_pair<'s>(
+    pairs: &mut BTreeMap<&'s str, PathAndJson<'s>>,
+    key: &'s str,
+    value: Result<PathAndJson<'s>, Stop>,
+) -> Result<(), Stop> {
+    match value {
+        Ok(value) => had(pairs.insert(key, value)).map(let_go),
+        Err(stop) => Err(stop),
+    }
+}
+
+fn let_go<T: Drop>(_value: T) {}

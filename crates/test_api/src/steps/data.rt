@@ -1,42 +1,84 @@
 //! Data, and the values that are converted to it.
 
-use crate::answer::{Answer, done, refused, shown};
-use crate::fields::{Stop, number, text, value};
-use crate::held::Held;
-use crate::state::{State, context_of};
+use crate::answer::{Answer, Stop, done, done_if, kept, refused, shown};
+use crate::fields::{copied, items, number, text};
+use crate::held::{had, if_made, put};
+use crate::state::context_of;
 use crate::steps::output::bytes_of;
 use handlebars::{Context, JsonValue, RenderError, RenderErrorReason, as_string, to_json};
 use serde::Serialize;
-use std::alloc::Global;
+use std::alloc::{AllocError, Global};
 
 /// What a call answers.
-pub fn answer(state: &mut State, call: &str, step: &JsonValue) -> Answer {
-    let alloc = state.bench.alloc;
+pub fn answer(
+    alloc: Global,
+    data: &mut Context,
+    copy: &mut Context,
+    call: &str,
+    step: &JsonValue,
+) -> Answer {
     match call {
-        "is" => shown(alloc, state.bench.data.data()),
-        "set" => {
-            state.bench.data = context_of(step, "to")?;
-            done(alloc)
-        }
+        "is" => shown(alloc, data.data()),
+        "set" => done_if(alloc, put(data, context_of(step, "to"))),
         "null" => {
-            state.bench.data = Context::null();
+            *data = Context::null();
             done(alloc)
         }
-        "wrap" => wrap(state, step),
-        "copy" => {
-            state.kept.copy = state.bench.data.clone(alloc)?;
-            done(alloc)
-        }
-        "copy_is" => shown(alloc, state.kept.copy.data()),
-        "set_copy" => set_copy(state, step),
+        "wrap" => wrap(alloc, data, step),
+        "copy" => done_if(alloc, put(copy, had(data.clone(alloc)))),
+        "copy_is" => shown(alloc, copy.data()),
+        "set_copy" => set_copy(alloc, copy, copied(step, "to")),
         _ => of_value(alloc, call, step),
     }
 }
 
+// Wraps a number of eight bits (`u8`), a number (`f64`) or a text (`str`).
+fn wrap(alloc: Global, data: &mut Context, step: &JsonValue) -> Answer {
+    if step.get("u8").is_some() {
+        return set_wrapped(
+            alloc,
+            data,
+            Context::wraps(alloc, &(number(step, "u8") as u8)),
+        );
+    }
+    match step.get("f64").and_then(JsonValue::as_f64) {
+        Some(number) => set_wrapped(alloc, data, Context::wraps(alloc, &number)),
+        None => set_wrapped(alloc, data, Context::wraps(alloc, &text(step, "str"))),
+    }
+}
+
+// Where it is refused, the data stay as they are.
+fn set_wrapped(alloc: Global, data: &mut Context, wrapped: Result<Context, RenderError>) -> Answer {
+    match wrapped {
+        Ok(wrapped) => {
+            *data = wrapped;
+            done(alloc)
+        }
+        Err(error) => refused::<()>(alloc, Err(error)),
+    }
+}
+
+// Sets the data of the copy.
+fn set_copy(alloc: Global, copy: &mut Context, given: Result<JsonValue, AllocError>) -> Answer {
+    match given {
+        Ok(given) => set(alloc, copy.set_data(given)),
+        Err(AllocError) => Err(Stop::OutOfMemory),
+    }
+}
+
+fn set(alloc: Global, answer: Result<(), RenderError>) -> Answer {
+    match answer {
+        Ok(()) => done(alloc),
+        Err(error) => refused::<()>(alloc, Err(error)),
+    }
+}
+
+// ---- values alone
+
 fn of_value(alloc: Global, call: &str, step: &JsonValue) -> Answer {
     match call {
-        "wrap_nested" => wrap_nested(alloc, step),
-        "convert_nested" => convert_nested(alloc, step),
+        "wrap_nested" => wrap_nested(alloc, nested(alloc, step)),
+        "convert_nested" => convert_nested(alloc, nested(alloc, step)),
         "convert_samples" => convert_samples(alloc),
         "convert" => convert(alloc, step),
         "text_of" => text_of(alloc, step),
@@ -44,67 +86,40 @@ fn of_value(alloc: Global, call: &str, step: &JsonValue) -> Answer {
     }
 }
 
-fn u8_of(step: &JsonValue) -> Result<u8, Stop> {
-    match u8::try_from(number(step, "u8")?) {
-        Ok(number) => Ok(number),
-        Err(_) => Err(Stop::Field("u8")),
-    }
-}
-
-// Wraps a number of eight bits (`u8`), a number (`f64`) or a text (`str`).
-fn wrap(state: &mut State, step: &JsonValue) -> Answer {
-    let alloc = state.bench.alloc;
-    if step.get("u8").is_some() {
-        return set_wrapped(state, Context::wraps(alloc, &u8_of(step)?));
-    }
-    match step.get("f64").and_then(JsonValue::as_f64) {
-        Some(number) => set_wrapped(state, Context::wraps(alloc, &number)),
-        None => set_wrapped(state, Context::wraps(alloc, &text(step, "str")?)),
-    }
-}
-
-// Where it is refused, the data stay as they are.
-fn set_wrapped(state: &mut State, data: Result<Context, RenderError>) -> Answer {
-    match data {
-        Ok(data) => {
-            state.bench.data = data;
-            done(state.bench.alloc)
-        }
-        Err(error) => refused::<()>(state.bench.alloc, Err(error)),
-    }
-}
-
-// Sets the data of the copy.
-fn set_copy(state: &mut State, step: &JsonValue) -> Answer {
-    let given = value(step, "to")?.clone()?;
-    match state.kept.copy.set_data(given) {
-        Ok(()) => done(state.bench.alloc),
-        Err(error) => refused::<()>(state.bench.alloc, Err(error)),
-    }
-}
-
 // Arrays in one another around null.
-fn nested(alloc: Global, step: &JsonValue) -> Result<Held<JsonValue>, Stop> {
-    let mut nested = Held {
-        value: JsonValue::Null,
-    };
-    for _ in 0..number(step, "depth")? {
-        nest(alloc, &mut nested.value)?;
+fn nested(alloc: Global, step: &JsonValue) -> Result<JsonValue, Stop> {
+    let mut nested = JsonValue::Null;
+    let made = nest_all(alloc, &mut nested, number(step, "depth"));
+    if_made(nested, made)
+}
+
+fn nest_all(alloc: Global, value: &mut JsonValue, depth: u64) -> Result<(), Stop> {
+    for _ in 0..depth {
+        nest(alloc, value)?;
     }
-    Ok(nested)
+    Ok(())
 }
 
 fn nest(alloc: Global, value: &mut JsonValue) -> Result<(), Stop> {
     let inner = std::mem::replace(value, JsonValue::Null);
-    *value = JsonValue::Array(vec![in alloc; inner]?);
-    Ok(())
+    put(value, had(around(alloc, inner)))
+}
+
+fn around(alloc: Global, inner: JsonValue) -> Result<JsonValue, AllocError> {
+    Ok(JsonValue::Array(vec![in alloc; inner]?))
 }
 
 // Whether the data of wrapped arrays are these, or the reason is an error of serde's.
-fn wrap_nested(alloc: Global, step: &JsonValue) -> Answer {
-    let nested = nested(alloc, step)?;
-    match Context::wraps(alloc, &nested.value) {
-        Ok(data) => shown(alloc, *data.data() == nested.value),
+fn wrap_nested(alloc: Global, nested: Result<JsonValue, Stop>) -> Answer {
+    match nested {
+        Ok(nested) => is_wrapped(alloc, Context::wraps(alloc, &nested), &nested),
+        Err(stop) => Err(stop),
+    }
+}
+
+fn is_wrapped(alloc: Global, data: Result<Context, RenderError>, nested: &JsonValue) -> Answer {
+    match data {
+        Ok(data) => shown(alloc, data.data() == nested),
         Err(error) => is_of_serde(alloc, &error),
     }
 }
@@ -116,47 +131,61 @@ fn is_of_serde(alloc: Global, error: &RenderError) -> Answer {
     }
 }
 
-fn convert_nested(alloc: Global, step: &JsonValue) -> Answer {
-    let nested = nested(alloc, step)?;
-    converted(alloc, &nested.value)
+fn convert_nested(alloc: Global, nested: Result<JsonValue, Stop>) -> Answer {
+    match nested {
+        Ok(nested) => json_of(alloc, to_json(alloc, &nested)),
+        Err(stop) => Err(stop),
+    }
 }
 
-// The value of something that serde writes, as JSON.
-fn converted<T: Serialize>(alloc: Global, source: &T) -> Answer {
-    let value = Held {
-        value: to_json(alloc, source)?,
-    };
-    Ok(value.value.to_string(alloc)?)
+fn json_of(alloc: Global, value: Result<JsonValue, AllocError>) -> Answer {
+    match value {
+        Ok(value) => kept(value.to_string(alloc)),
+        Err(AllocError) => Err(Stop::OutOfMemory),
+    }
 }
 
 // What no JSON says: an array with nothing in it, the first number outside `i64`, and a negative one.
 fn convert_samples(alloc: Global) -> Answer {
-    converted(alloc, &([Some(1u8), None], 1u64 << 63, -1i8))
+    json_of(
+        alloc,
+        to_json(alloc, &([Some(1u8), None], 1u64 << 63, -1i8)),
+    )
 }
 
 // Whether a value is converted to itself.
 fn convert(alloc: Global, step: &JsonValue) -> Answer {
-    let given = value(step, "value")?;
-    let again = Held {
-        value: to_json(alloc, given)?,
-    };
-    shown(alloc, again.value == *given)
+    match step.get("value") {
+        Some(given) => is(alloc, to_json(alloc, given), given),
+        None => Err(Stop::Field),
+    }
+}
+
+fn is(alloc: Global, value: Result<JsonValue, AllocError>, given: &JsonValue) -> Answer {
+    match value {
+        Ok(value) => shown(alloc, value == *given),
+        Err(AllocError) => Err(Stop::OutOfMemory),
+    }
 }
 
 // The text that a converted text is, or converted bytes are.
 fn text_of(alloc: Global, step: &JsonValue) -> Answer {
-    match step.get("bytes").and_then(JsonValue::as_array) {
-        Some(bytes) => {
-            let bytes = bytes_of(alloc, bytes.as_slice())?;
-            text_in(alloc, &bytes)
-        }
-        None => text_in(alloc, &text(step, "str")?),
+    match step.get("bytes") {
+        Some(_) => text_of_bytes(alloc, bytes_of(alloc, items(step, "bytes"))),
+        None => text_in(alloc, &text(step, "str")),
+    }
+}
+
+fn text_of_bytes(alloc: Global, bytes: Result<Vec<u8>, Stop>) -> Answer {
+    match bytes {
+        Ok(bytes) => text_in(alloc, &bytes),
+        Err(stop) => Err(stop),
     }
 }
 
 fn text_in<T: Serialize>(alloc: Global, source: &T) -> Answer {
-    let value = Held {
-        value: to_json(alloc, source)?,
-    };
-    shown(alloc, as_string(&value.value))
+    match to_json(alloc, source) {
+        Ok(value) => shown(alloc, as_string(&value)),
+        Err(AllocError) => Err(Stop::OutOfMemory),
+    }
 }

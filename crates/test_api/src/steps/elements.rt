@@ -1,58 +1,69 @@
 //! Elements alone: of a source, or by hand.
 
-use crate::answer::{Answer, shown};
-use crate::bench::Bench;
-use crate::fields::{Stop, number, text, value};
+use crate::answer::{Answer, Stop, shown};
+use crate::fields::{number, text};
 use crate::held::Held;
-use crate::made::tree::{compiled, element_of};
-use handlebars::{Evaluable, JsonValue, TemplateElement};
+use crate::made::tree::{compiled, tree_around};
+use crate::state::Given;
+use crate::steps::render::text_of;
+use handlebars::{Evaluable, JsonValue, RenderContext, Template, TemplateElement};
 use log::sink::Discard;
+use std::alloc::Global;
 
 /// What a call answers.
-pub fn answer(bench: &mut Bench, call: &str, step: &JsonValue) -> Answer {
+pub fn answer(given: Given<'_>, rc: &mut RenderContext, call: &str, step: &JsonValue) -> Answer {
+    let source = text(step, "source");
     match call {
-        "count" => count(bench, step),
-        "render" => render(bench, step),
-        "eval" => eval(bench, step),
-        "render_made" => render_made(bench, step),
+        "count" => count(given.alloc, compiled(given.alloc, source)),
+        "render" => {
+            let index = number(step, "index") as usize;
+            render(given, rc, compiled(given.alloc, source), index)
+        }
+        "eval" => eval(given, rc, compiled(given.alloc, source)),
+        "render_made" => render(given, rc, tree_around(given.alloc, step), 0),
         _ => Err(Stop::Call),
     }
 }
 
-fn count(bench: &Bench, step: &JsonValue) -> Answer {
-    let template = compiled(bench.alloc, text(step, "source")?)?;
-    shown(bench.alloc, template.value.elements.len())
+fn count(alloc: Global, tree: Result<Held<Template>, Stop>) -> Answer {
+    match tree {
+        Ok(tree) => shown(alloc, tree.value.elements.len()),
+        Err(stop) => Err(stop),
+    }
 }
 
 // The text of the element that stands behind so many others.
-fn render(bench: &mut Bench, step: &JsonValue) -> Answer {
-    let template = compiled(bench.alloc, text(step, "source")?)?;
-    match template.value.elements.get(number(step, "index")? as usize) {
-        Some(element) => bench.renders(element),
-        None => Err(Stop::Field("index")),
+fn render(
+    given: Given<'_>,
+    rc: &mut RenderContext,
+    tree: Result<Held<Template>, Stop>,
+    index: usize,
+) -> Answer {
+    match tree {
+        Ok(tree) => match tree.value.elements.get(index) {
+            Some(element) => text_of(given, rc, element),
+            None => Err(Stop::Field),
+        },
+        Err(stop) => Err(stop),
     }
-}
-
-fn render_made(bench: &mut Bench, step: &JsonValue) -> Answer {
-    let element = Held {
-        value: element_of(bench.alloc, value(step, "element")?)?,
-    };
-    bench.renders(&element.value)
 }
 
 // What the first element is evaluated to.
-fn eval(bench: &mut Bench, step: &JsonValue) -> Answer {
-    let template = compiled(bench.alloc, text(step, "source")?)?;
-    match template.value.elements.first() {
-        Some(element) => evaluated(bench, element),
-        None => Err(Stop::Field("source")),
+fn eval(given: Given<'_>, rc: &mut RenderContext, tree: Result<Held<Template>, Stop>) -> Answer {
+    match tree {
+        Ok(tree) => match tree.value.elements.first() {
+            Some(element) => evaluated(given, rc, element),
+            None => Err(Stop::Field),
+        },
+        Err(stop) => Err(stop),
     }
 }
 
-fn evaluated(bench: &mut Bench, element: &TemplateElement) -> Answer {
-    let (registry, data, rc) = (&bench.registry, &bench.data, &mut bench.rc);
-    shown(
-        bench.alloc,
-        element.eval(bench.alloc, registry, data, rc, &Discard),
-    )
+fn evaluated(given: Given<'_>, rc: &mut RenderContext, element: &TemplateElement) -> Answer {
+    let Given {
+        alloc,
+        registry,
+        data,
+    } = given;
+    shown(alloc, element.eval(alloc, registry, data, rc, &Discard))
 }

@@ -1,93 +1,122 @@
 //! Errors that are made by hand.
 
-use crate::answer::{Answer, displayed, done, printed, said};
-use crate::fields::{Stop, joined, number, owned, text, value};
-use crate::state::Kept;
+use crate::answer::{Answer, Stop, done, printed, said};
+use crate::fields::{joined, number, owned, text, text_at};
 use handlebars::{JsonValue, RenderError, TemplateError, TemplateErrorReason};
 use handlebars_base::output::output_fault;
 use std::alloc::{AllocError, Global};
 use std::io;
 
 /// What a call answers.
-pub fn answer(kept: &mut Kept, call: &str, step: &JsonValue) -> Answer {
+pub fn answer(
+    alloc: Global,
+    error: &mut Option<RenderError>,
+    call: &str,
+    step: &JsonValue,
+) -> Answer {
     match call {
-        "is" => is(kept),
-        "prints" => prints(kept),
-        "at" => at(kept, step),
-        "in_template" => in_template(kept, step),
-        "of_template" => of_template(kept.alloc, step),
-        _ => put(kept, error_of(kept.alloc, call, step)?),
+        "is" => is(alloc, error),
+        "prints" => prints(alloc, error),
+        "at" => at(alloc, error, step),
+        "in_template" => in_template(alloc, error, owned(alloc, step, "name")),
+        "of_template" => of_template(alloc, joined(alloc, step, "source"), step),
+        _ => make(alloc, error, error_of(alloc, call, step)),
     }
 }
 
 // The error that a call makes.
-fn error_of(alloc: Global, call: &str, step: &JsonValue) -> Result<RenderError, Stop> {
+fn error_of(alloc: Global, call: &str, step: &JsonValue) -> Option<RenderError> {
     match call {
         "strict" => strict(alloc, step),
-        "new" => Ok(RenderError::new(alloc, text(step, "text")?)),
+        "new" => Some(RenderError::new(alloc, text(step, "text"))),
         "from_error" => {
             let cause = io::Error::other(DISK);
-            Ok(RenderError::from_error(alloc, "info", &cause))
+            Some(RenderError::from_error(alloc, "info", &cause))
         }
-        "of_template_memory" => Ok(TemplateError::of(TemplateErrorReason::OutOfMemory).into()),
-        "of_memory" => Ok(AllocError.into()),
-        "of_output_memory" => Ok(output_fault(AllocError.into())),
-        _ => Err(Stop::Call),
+        "of_template_memory" => Some(TemplateError::of(TemplateErrorReason::OutOfMemory).into()),
+        "of_memory" => Some(AllocError.into()),
+        "of_output_memory" => Some(output_fault(AllocError.into())),
+        _ => None,
     }
 }
 
 const DISK: &str = "disk";
 
 // The error of strict mode about a name, or about none.
-fn strict(alloc: Global, step: &JsonValue) -> Result<RenderError, Stop> {
-    match value(step, "name")?.as_str() {
-        Some(name) => Ok(RenderError::strict_error(alloc, Some(&owned(alloc, name)?))),
-        None => Ok(RenderError::strict_error(alloc, None)),
+fn strict(alloc: Global, step: &JsonValue) -> Option<RenderError> {
+    match text_at(step, "name") {
+        Some(_) => strict_about(alloc, owned(alloc, step, "name")),
+        None => Some(RenderError::strict_error(alloc, None)),
     }
 }
 
-fn put(kept: &mut Kept, error: RenderError) -> Answer {
-    kept.error = Some(error);
-    done(kept.alloc)
+fn strict_about(alloc: Global, name: Result<String, AllocError>) -> Option<RenderError> {
+    match name {
+        Ok(name) => Some(RenderError::strict_error(alloc, Some(&name))),
+        Err(AllocError) => None,
+    }
 }
 
-fn is(kept: &Kept) -> Answer {
-    match &kept.error {
-        Some(error) => said(kept.alloc, error),
+// The error of a call, if it made one.
+fn make(alloc: Global, error: &mut Option<RenderError>, made: Option<RenderError>) -> Answer {
+    let is_made = made.is_some();
+    *error = made;
+    match is_made {
+        true => done(alloc),
+        false => Err(Stop::Call),
+    }
+}
+
+fn is(alloc: Global, error: &Option<RenderError>) -> Answer {
+    match error {
+        Some(error) => said(alloc, error),
         None => Err(Stop::Call),
     }
 }
 
-fn prints(kept: &Kept) -> Answer {
-    match &kept.error {
-        Some(error) => Ok(displayed(kept.alloc, error)?),
+fn prints(alloc: Global, error: &Option<RenderError>) -> Answer {
+    match error {
+        Some(error) => printed(alloc, error),
         None => Err(Stop::Call),
     }
 }
 
-fn at(kept: &mut Kept, step: &JsonValue) -> Answer {
-    let (line, column) = (number(step, "line")?, number(step, "column")?);
-    match kept.error.take() {
-        Some(error) => put(kept, error.at(line as usize, column as usize)),
-        None => Err(Stop::Call),
-    }
+fn at(alloc: Global, error: &mut Option<RenderError>, step: &JsonValue) -> Answer {
+    let (line, column) = (
+        number(step, "line") as usize,
+        number(step, "column") as usize,
+    );
+    let placed = match error.take() {
+        Some(error) => Some(error.at(line, column)),
+        None => None,
+    };
+    make(alloc, error, placed)
 }
 
-fn in_template(kept: &mut Kept, step: &JsonValue) -> Answer {
-    let name = owned(kept.alloc, text(step, "name")?)?;
-    match kept.error.take() {
-        Some(error) => put(kept, error.in_template(kept.alloc, &name)),
-        None => Err(Stop::Call),
-    }
+fn in_template(
+    alloc: Global,
+    error: &mut Option<RenderError>,
+    name: Result<String, AllocError>,
+) -> Answer {
+    let named = match (error.take(), name) {
+        (Some(error), Ok(name)) => Some(error.in_template(alloc, &name)),
+        _ => None,
+    };
+    make(alloc, error, named)
 }
 
 // What an error of a source without a name prints, at a line and a column.
-fn of_template(alloc: Global, step: &JsonValue) -> Answer {
-    let source = joined(alloc, value(step, "source")?)?;
-    let (line, column) = (number(step, "line")?, number(step, "column")?);
-    let error = TemplateError::of(TemplateErrorReason::NestedSubexpression);
-    printed(
-        alloc,
-        error.at(alloc, source.as_str(), line as usize, column as usize),
-    )
+fn of_template(alloc: Global, source: Result<String, AllocError>, step: &JsonValue) -> Answer {
+    match source {
+        Ok(source) => printed(alloc, error_in(alloc, source.as_str(), step)),
+        Err(AllocError) => Err(Stop::OutOfMemory),
+    }
+}
+
+fn error_in(alloc: Global, source: &str, step: &JsonValue) -> TemplateError {
+    let (line, column) = (
+        number(step, "line") as usize,
+        number(step, "column") as usize,
+    );
+    TemplateError::of(TemplateErrorReason::NestedSubexpression).at(alloc, source, line, column)
 }

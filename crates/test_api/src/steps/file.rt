@@ -1,71 +1,55 @@
 //! The proved callers that write to a file, and that render templates of files.
 
-use crate::answer::{Answer, done, shown};
-use crate::fields::{Stop, owned, text};
+use crate::answer::{Answer, Stop, done_if, shown};
+use crate::fields::{owned, text};
+use crate::held::had;
+use crate::memory::Texts;
 use crate::pages::{rendered_anew, rendered_as_registered, write_page};
-use crate::state::State;
-use handlebars::{FileReader, JsonValue, TemplateReader};
+use handlebars::{Context, FileReader, JsonValue, Registry, TemplateReader};
 use log::sink::Discard;
+use std::alloc::AllocError;
+use std::collections::BTreeMap;
 use std::rt::Files;
 
 /// What a call answers.
 pub fn answer<R: Files + AllocGlobal + Clone + Drop>(
     rt: &R,
-    state: &mut State,
+    registry: &mut Registry,
+    data: &Context,
+    files: &mut Texts,
     call: &str,
     step: &JsonValue,
 ) -> Answer {
+    let (alloc, name, path) = (rt.alloc(), text(step, "name"), text(step, "path"));
     match call {
-        "write_page" => write(rt, state, step),
-        "read" => read(rt, step),
-        "put" => put(state, step),
-        "anew" => anew(state, step),
-        "as_registered" => as_registered(state, step),
+        "write_page" => shown(alloc, write_page(rt, path, registry, name, data, &Discard)),
+        "read" => shown(alloc, FileReader::new(rt, alloc).read(path)),
+        "put" => {
+            let (path, text) = (owned(alloc, step, "path"), owned(alloc, step, "text"));
+            done_if(alloc, put(&mut files.texts, path, text))
+        }
+        "anew" => shown(
+            alloc,
+            rendered_anew(registry, name, path, data, &Discard, files),
+        ),
+        "as_registered" => shown(
+            alloc,
+            rendered_as_registered(registry, name, data, &Discard, files),
+        ),
         _ => Err(Stop::Call),
     }
 }
 
-// Writes a template to a file of the system.
-fn write<R: Files + AllocGlobal + Clone + Drop>(rt: &R, state: &State, step: &JsonValue) -> Answer {
-    let (path, name) = (text(step, "path")?, text(step, "name")?);
-    let bench = &state.bench;
-    shown(
-        bench.alloc,
-        write_page(rt, path, &bench.registry, name, &bench.data, &Discard),
-    )
-}
-
-fn read<R: Files + AllocGlobal + Clone + Drop>(rt: &R, step: &JsonValue) -> Answer {
-    let answer = FileReader::new(rt, rt.alloc()).read(text(step, "path")?);
-    shown(rt.alloc(), answer)
-}
-
 // Puts a text under a path in memory.
-fn put(state: &mut State, step: &JsonValue) -> Answer {
-    let path = owned(state.bench.alloc, text(step, "path")?)?;
-    let text = owned(state.bench.alloc, text(step, "text")?)?;
-    match state.kept.files.texts.insert(path, text) {
-        Ok(_) => done(state.bench.alloc),
-        Err(_) => Err(Stop::OutOfMemory),
+fn put(
+    texts: &mut BTreeMap<String, String>,
+    path: Result<String, AllocError>,
+    text: Result<String, AllocError>,
+) -> Result<(), Stop> {
+    match (path, text) {
+        (Ok(path), Ok(text)) => had(texts.insert(path, text)).map(let_go),
+        _ => Err(Stop::OutOfMemory),
     }
 }
 
-fn anew(state: &mut State, step: &JsonValue) -> Answer {
-    let (name, path) = (text(step, "name")?, text(step, "path")?);
-    let (bench, files) = (&mut state.bench, &mut state.kept.files);
-    let (registry, data) = (&mut bench.registry, &bench.data);
-    shown(
-        bench.alloc,
-        rendered_anew(registry, name, path, data, &Discard, files),
-    )
-}
-
-fn as_registered(state: &mut State, step: &JsonValue) -> Answer {
-    let name = text(step, "name")?;
-    let (bench, files) = (&mut state.bench, &mut state.kept.files);
-    let (registry, data) = (&mut bench.registry, &bench.data);
-    shown(
-        bench.alloc,
-        rendered_as_registered(registry, name, data, &Discard, files),
-    )
-}
+fn let_go<T: Drop>(_value: T) {}

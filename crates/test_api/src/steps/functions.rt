@@ -10,23 +10,22 @@ ghost use Rattle.handlebars_helpers.specs.OwnView.{steps_of};
 ghost use Rattle.handlebars_helpers.specs.View.{helper_view};
 ghost use Rattle.handlebars_parts.specs.Parts.{shown_at};
 
-use crate::answer::{Answer, shown};
-use crate::bench::Bench;
-use crate::fields::{Stop, text, value};
-use crate::made::part::helper_of;
+use crate::answer::{Answer, Stop, shown};
+use crate::fields::text;
+use crate::made::part::helper_at;
 use handlebars::{
     Context, Decorator, DecoratorEntry, DecoratorFn, FnDecorator, FnDeeds, FnHelper, FnSteps,
-    Helper, HelperEntry, HelperFn, JsonValue, NoFiles,
+    Helper, HelperEntry, HelperFn, JsonValue, NoFiles, Registry,
 };
 use handlebars_parts::functions::{renamed, said};
 use log::sink::Discard;
-use std::alloc::Global;
+use std::alloc::{AllocError, Global};
 
 /// What a source renders to where `simple-helper` is the helper of the field `helper`, `another-simple-helper` and
 /// `closure-helper` are functions that write a text and their parameter, and `renamed` is one that makes `size` a name of `len`.
 pub fn rendered(alloc: Global, step: &JsonValue) -> Answer {
-    let mut bench = Bench::new(alloc, Context::null())?;
-    let first = helper_of(alloc, value(step, "helper")?)?;
+    let mut registry = Registry::new(alloc)?;
+    let first = helper_at(alloc, step)?;
     let second: HelperFn = Box::new(
         alloc,
         move |h: &Helper, _data: &Context, _changed: &Option<&Context>, _strict: bool| -> FnSteps
@@ -57,38 +56,33 @@ pub fn rendered(alloc: Global, step: &JsonValue) -> Answer {
         { renamed(alloc) },
     )?;
     put(
-        &mut bench,
+        &mut registry,
         "simple-helper",
         HelperEntry::Own(Box::new(alloc, first)?),
     )?;
     put(
-        &mut bench,
+        &mut registry,
         "another-simple-helper",
         HelperEntry::Function(FnHelper::new(second)),
     )?;
     put(
-        &mut bench,
+        &mut registry,
         "closure-helper",
         HelperEntry::Function(FnHelper::new(third)),
     )?;
-    decorate(
-        &mut bench,
+    registry.register_decorator(
         "renamed",
         DecoratorEntry::Function(FnDecorator::new(fourth)),
     )?;
-    renders(&bench, text(step, "source")?)
+    renders(alloc, &registry, text(step, "source"))
 }
 
-fn put(bench: &mut Bench, name: &str, helper: HelperEntry) -> Result<(), Stop> {
-    Ok(bench.registry.register_helper(name, helper)?)
+fn put(registry: &mut Registry, name: &str, helper: HelperEntry) -> Result<(), AllocError> {
+    registry.register_helper(name, helper)
 }
 
-fn decorate(bench: &mut Bench, name: &str, decorator: DecoratorEntry) -> Result<(), Stop> {
-    Ok(bench.registry.register_decorator(name, decorator)?)
-}
-
-fn renders(bench: &Bench, source: &str) -> Answer {
-    let (registry, data) = (&bench.registry, &bench.data);
-    let answer = registry.render_template_with_context(source, data, &Discard, &mut NoFiles);
-    shown(bench.alloc, answer)
+fn renders(alloc: Global, registry: &Registry, source: &str) -> Answer {
+    let data = Context::null();
+    let answer = registry.render_template_with_context(source, &data, &Discard, &mut NoFiles);
+    shown(alloc, answer)
 }

@@ -1,51 +1,41 @@
 //! The output, and what is known of the line that is written.
 
-use crate::answer::{Answer, done, shown};
-use crate::bench::Bench;
-use crate::fields::{Stop, flag, text};
-use handlebars::{JsonValue, Output, StringOutput, indent_aware_write};
+use crate::answer::{Answer, Stop, done, shown};
+use crate::fields::{flag, text};
+use handlebars::{JsonValue, Output, RenderContext, StringOutput, indent_aware_write};
+use std::alloc::Global;
 
 /// What a call answers.
-pub fn answer(bench: &mut Bench, call: &str, step: &JsonValue) -> Answer {
+pub fn answer(
+    alloc: Global,
+    rc: &mut RenderContext,
+    out: &mut StringOutput,
+    call: &str,
+    step: &JsonValue,
+) -> Answer {
     match call {
-        "is" => is(bench),
-        "set_trailing_newline" => {
-            bench.rc.set_trailing_newline(flag(step, "on"));
-            done(bench.alloc)
-        }
-        "set_content_produced" => {
-            bench.rc.set_content_produced(flag(step, "on"));
-            done(bench.alloc)
-        }
-        "set_indent_before_write" => {
-            bench.rc.set_indent_before_write(flag(step, "on"));
-            done(bench.alloc)
-        }
-        "write" => shown(bench.alloc, bench.out.write(text(step, "text")?)),
-        "write_aware" => write_aware(bench, step),
-        "out" => out(bench),
-        _ => Err(Stop::Call),
+        "is" => is(alloc, rc),
+        "write" => shown(alloc, out.write(text(step, "text"))),
+        "write_aware" => shown(alloc, indent_aware_write(text(step, "text"), rc, out)),
+        "out" => Ok(std::mem::replace(out, StringOutput::new(alloc)).into_string()),
+        _ => set(alloc, rc, call, flag(step, "on")),
     }
 }
 
 // Whether a line has ended, whether content was written, and whether white is to come first.
-fn is(bench: &Bench) -> Answer {
-    let newline = bench.rc.get_trailine_newline();
-    let content = bench.rc.get_content_produced();
-    let indent = bench.rc.get_indent_before_write();
-    shown(bench.alloc, (newline, content, indent))
+fn is(alloc: Global, rc: &RenderContext) -> Answer {
+    let newline = rc.get_trailine_newline();
+    let content = rc.get_content_produced();
+    let indent = rc.get_indent_before_write();
+    shown(alloc, (newline, content, indent))
 }
 
-fn write_aware(bench: &mut Bench, step: &JsonValue) -> Answer {
-    let text = text(step, "text")?;
-    shown(
-        bench.alloc,
-        indent_aware_write(text, &mut bench.rc, &mut bench.out),
-    )
-}
-
-// The text of the output, with an empty one in its place.
-fn out(bench: &mut Bench) -> Answer {
-    let none = StringOutput::new(bench.alloc);
-    Ok(std::mem::replace(&mut bench.out, none).into_string())
+fn set(alloc: Global, rc: &mut RenderContext, call: &str, on: bool) -> Answer {
+    match call {
+        "set_trailing_newline" => rc.set_trailing_newline(on),
+        "set_content_produced" => rc.set_content_produced(on),
+        "set_indent_before_write" => rc.set_indent_before_write(on),
+        _ => return Err(Stop::Call),
+    }
+    done(alloc)
 }

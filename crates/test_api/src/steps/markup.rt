@@ -1,20 +1,17 @@
 //! Whether markup is fixed, and each place that keeps it from being so.
 
-use crate::answer::{Answer, said, shown};
-use crate::bench::Bench;
-use crate::fields::{Stop, text};
-use crate::held::Held;
-use handlebars::{JsonValue, MarkupFault, NoFiles, RenderError};
-use std::alloc::Global;
+use crate::answer::{Answer, Stop, kept, said, shown};
+use crate::fields::text;
+use handlebars::{JsonValue, MarkupFault, NoFiles, Registry, RenderError};
+use std::alloc::{AllocError, Global};
 
 /// What a call answers.
-pub fn answer(bench: &mut Bench, call: &str, step: &JsonValue) -> Answer {
-    let (alloc, registry) = (bench.alloc, &bench.registry);
+pub fn answer(alloc: Global, registry: &Registry, call: &str, step: &JsonValue) -> Answer {
     match call {
         "is_fixed" => shown(alloc, registry.markup_is_fixed(&mut NoFiles)),
         "faults" => lists(alloc, registry.markup_faults(&mut NoFiles)),
         "source_faults" => {
-            let source = text(step, "source")?;
+            let source = text(step, "source");
             lists(alloc, registry.template_markup_faults(source, &mut NoFiles))
         }
         _ => Err(Stop::Call),
@@ -24,15 +21,15 @@ pub fn answer(bench: &mut Bench, call: &str, step: &JsonValue) -> Answer {
 // The places, a line each.
 fn lists(alloc: Global, answer: Result<Vec<MarkupFault>, RenderError>) -> Answer {
     match answer {
-        Ok(value) => lines(alloc, &Held { value }.value),
+        Ok(faults) => kept(lines(alloc, &faults)),
         Err(error) => said(alloc, &error),
     }
 }
 
-fn lines(alloc: Global, faults: &Vec<MarkupFault>) -> Answer {
+fn lines(alloc: Global, faults: &Vec<MarkupFault>) -> Result<String, AllocError> {
     let mut lines = String::new(alloc);
     for fault in faults {
-        lines.push_str(format!(in alloc; "{fault}\n")?.as_str())?;
+        writeln!(lines, "{fault}")?;
     }
     Ok(lines)
 }

@@ -1,67 +1,98 @@
 //! Calls that register helpers, decorators and escape functions, and take them away.
 
-use crate::answer::{Answer, done, shown};
-use crate::bench::Bench;
-use crate::fields::{Stop, text};
+use crate::answer::{Answer, Stop, done, shown};
+use crate::fields::text;
 use crate::own::Own;
-use handlebars::{DecoratorEntry, EscapeKind, HelperEntry, JsonValue};
+use handlebars::{BuiltIn, DecoratorEntry, EscapeKind, HelperEntry, JsonValue, Registry};
 use handlebars_rows::helpers::helper_named;
+use std::alloc::Global;
 
 /// What a call answers.
-pub fn answer(bench: &mut Bench, own: &mut Own, call: &str, step: &JsonValue) -> Answer {
+pub fn answer(
+    alloc: Global,
+    registry: &mut Registry,
+    own: &mut Own,
+    call: &str,
+    step: &JsonValue,
+) -> Answer {
+    let name = text(step, "name");
     match call {
-        "helper" => register(bench, step, HelperEntry::Own(own.next_helper()?)),
-        "built_in" => built_in(bench, step),
-        "decorator" => decorator(bench, own, step),
-        "escape" => escape(bench, own, step),
+        "helper" => own_helper(alloc, registry, own, name),
+        "built_in" => built_in(
+            alloc,
+            registry,
+            name,
+            step.get("kind").and_then(helper_named),
+        ),
+        "decorator" => decorator(alloc, registry, own, name, text(step, "part")),
+        "escape" => escape(alloc, registry, own, text(step, "part")),
         "unregister_helper" => {
-            bench.registry.unregister_helper(text(step, "name")?);
-            done(bench.alloc)
+            registry.unregister_helper(name);
+            done(alloc)
         }
         "unregister_escape" => {
-            bench.registry.unregister_escape_fn();
-            done(bench.alloc)
+            registry.unregister_escape_fn();
+            done(alloc)
         }
         _ => Err(Stop::Call),
     }
 }
 
-fn built_in(bench: &mut Bench, step: &JsonValue) -> Answer {
-    match step.get("kind").and_then(helper_named) {
-        Some(kind) => register(bench, step, HelperEntry::Built(kind)),
-        None => Err(Stop::Field("kind")),
+fn own_helper(alloc: Global, registry: &mut Registry, own: &mut Own, name: &str) -> Answer {
+    match own.next_helper() {
+        Some(helper) => register(alloc, registry, name, HelperEntry::Own(helper)),
+        None => Err(Stop::Field),
     }
 }
 
-fn register(bench: &mut Bench, step: &JsonValue, helper: HelperEntry) -> Answer {
-    let name = text(step, "name")?;
-    shown(bench.alloc, bench.registry.register_helper(name, helper))
-}
-
-fn decorator(bench: &mut Bench, own: &mut Own, step: &JsonValue) -> Answer {
-    match step.get("part").and_then(JsonValue::as_str) {
-        Some("inline") => decorate(bench, step, DecoratorEntry::Inline),
-        _ => decorate(bench, step, DecoratorEntry::Own(own.next_decorator()?)),
+fn built_in(alloc: Global, registry: &mut Registry, name: &str, kind: Option<BuiltIn>) -> Answer {
+    match kind {
+        Some(kind) => register(alloc, registry, name, HelperEntry::Built(kind)),
+        None => Err(Stop::Field),
     }
 }
 
-fn decorate(bench: &mut Bench, step: &JsonValue, decorator: DecoratorEntry) -> Answer {
-    let name = text(step, "name")?;
-    shown(
-        bench.alloc,
-        bench.registry.register_decorator(name, decorator),
-    )
+fn register(alloc: Global, registry: &mut Registry, name: &str, helper: HelperEntry) -> Answer {
+    shown(alloc, registry.register_helper(name, helper))
 }
 
-fn escape(bench: &mut Bench, own: &mut Own, step: &JsonValue) -> Answer {
-    match text(step, "part")? {
-        "html" => put_escape(bench, EscapeKind::Html),
-        "plain" => put_escape(bench, EscapeKind::Plain),
-        _ => put_escape(bench, EscapeKind::Own(own.next_escape()?)),
+fn decorator(
+    alloc: Global,
+    registry: &mut Registry,
+    own: &mut Own,
+    name: &str,
+    part: &str,
+) -> Answer {
+    match part {
+        "inline" => decorate(alloc, registry, name, DecoratorEntry::Inline),
+        _ => match own.next_decorator() {
+            Some(decorator) => decorate(alloc, registry, name, DecoratorEntry::Own(decorator)),
+            None => Err(Stop::Field),
+        },
     }
 }
 
-fn put_escape(bench: &mut Bench, escape: EscapeKind) -> Answer {
-    bench.registry.register_escape_fn(escape);
-    done(bench.alloc)
+fn decorate(
+    alloc: Global,
+    registry: &mut Registry,
+    name: &str,
+    decorator: DecoratorEntry,
+) -> Answer {
+    shown(alloc, registry.register_decorator(name, decorator))
+}
+
+fn escape(alloc: Global, registry: &mut Registry, own: &mut Own, part: &str) -> Answer {
+    match part {
+        "html" => put_escape(alloc, registry, EscapeKind::Html),
+        "plain" => put_escape(alloc, registry, EscapeKind::Plain),
+        _ => match own.next_escape() {
+            Some(escape) => put_escape(alloc, registry, EscapeKind::Own(escape)),
+            None => Err(Stop::Field),
+        },
+    }
+}
+
+fn put_escape(alloc: Global, registry: &mut Registry, escape: EscapeKind) -> Answer {
+    registry.register_escape_fn(escape);
+    done(alloc)
 }

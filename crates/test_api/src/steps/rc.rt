@@ -1,36 +1,36 @@
 //! The state of the render context.
 
-use crate::answer::{Answer, done, refused, shown};
-use crate::bench::Bench;
-use crate::fields::{Stop, flag, items, owned, text, value};
-use crate::held::Held;
-use crate::state::{State, context_of};
-use handlebars::{JsonValue, RenderContext};
-use std::alloc::Global;
+use crate::answer::{Answer, Stop, done, refused, shown};
+use crate::fields::{flag, items, owned, text, text_at};
+use crate::held::{had, if_made, push, put};
+use crate::state::context_of;
+use handlebars::{Context, JsonValue, RenderContext, RenderError, ScopedJson};
+use std::alloc::{AllocError, Global};
 
 /// What a call answers.
-pub fn answer(state: &mut State, call: &str, step: &JsonValue) -> Answer {
-    let bench = &mut state.bench;
+pub fn answer(
+    alloc: Global,
+    data: &Context,
+    rc: &mut RenderContext,
+    looked_up: &mut u64,
+    call: &str,
+    step: &JsonValue,
+) -> Answer {
+    let name = text(step, "name");
     match call {
-        "new" => new(bench, step),
-        "evaluate" => evaluate(bench, step),
-        "bind" => bind(bench, step),
-        "local_helper" => local_helper(bench, step),
-        "set_context" => {
-            bench.rc.set_context(context_of(step, "to")?);
-            done(bench.alloc)
-        }
-        "set_current_template_name" => set_name(bench, step),
-        "looked_up" => looked_up(bench),
-        "has_partial" => shown(
-            bench.alloc,
-            bench.rc.get_partial(text(step, "name")?).is_some(),
-        ),
+        "new" => new(alloc, rc, step),
+        "evaluate" => evaluated(alloc, rc.evaluate(data, text(step, "path"))),
+        "looked_up" => looked_up_since(alloc, rc, looked_up),
+        "bind" => bind(alloc, rc, step, copies(alloc, items(step, "constants"))),
+        "local_helper" => local_helper(alloc, rc, name),
+        "has_partial" => shown(alloc, rc.get_partial(name).is_some()),
+        "set_context" => set_context(alloc, rc, context_of(step, "to")),
+        "set_current_template_name" => set_name(alloc, rc, name_of(alloc, step, "to")),
         "unbind" => {
-            bench.rc.unregister_local_helper(text(step, "name")?);
-            done(bench.alloc)
+            rc.unregister_local_helper(name);
+            done(alloc)
         }
-        _ => toggle(bench.alloc, &mut bench.rc, call, step),
+        _ => toggle(alloc, rc, call, step),
     }
 }
 
@@ -49,73 +49,97 @@ fn toggle(alloc: Global, rc: &mut RenderContext, call: &str, step: &JsonValue) -
     }
 }
 
-// A new render context, whose root template has the name `name`, if there is one.
-fn new(bench: &mut Bench, step: &JsonValue) -> Answer {
-    match step.get("name").and_then(JsonValue::as_str) {
-        Some(name) => new_named(bench, owned(bench.alloc, name)?),
-        None => {
-            bench.rc = RenderContext::new(bench.alloc, None)?;
-            done(bench.alloc)
-        }
+// The name that a field is, if it is one.
+fn name_of(alloc: Global, step: &JsonValue, field: &str) -> Result<Option<String>, Stop> {
+    match text_at(step, field) {
+        Some(_) => had(owned(alloc, step, field).map(Some)),
+        None => Ok(None),
     }
 }
 
-fn new_named(bench: &mut Bench, name: String) -> Answer {
-    bench.rc = RenderContext::new(bench.alloc, Some(&name))?;
-    done(bench.alloc)
+// A new render context, whose root template has the name `name`, if there is one.
+fn new(alloc: Global, rc: &mut RenderContext, step: &JsonValue) -> Answer {
+    match name_of(alloc, step, "name") {
+        Ok(name) => renew(alloc, rc, RenderContext::new(alloc, name.as_ref())),
+        Err(stop) => Err(stop),
+    }
+}
+
+fn renew(alloc: Global, rc: &mut RenderContext, new: Result<RenderContext, AllocError>) -> Answer {
+    match put(rc, had(new)) {
+        Ok(()) => done(alloc),
+        Err(stop) => Err(stop),
+    }
 }
 
 // The value that a path leads to, if there is one.
-fn evaluate(bench: &Bench, step: &JsonValue) -> Answer {
-    match bench.rc.evaluate(&bench.data, text(step, "path")?) {
-        Ok(value) => shown(bench.alloc, Held { value }.value.as_json()),
-        Err(error) => refused::<()>(bench.alloc, Err(error)),
+fn evaluated(alloc: Global, answer: Result<ScopedJson<'_>, RenderError>) -> Answer {
+    match answer {
+        Ok(value) => shown(alloc, value.as_json()),
+        Err(error) => refused::<()>(alloc, Err(error)),
     }
 }
 
 // Binds a name to what is registered under another one, with constants before the parameters.
-fn bind(bench: &mut Bench, step: &JsonValue) -> Answer {
-    let (name, registered) = (text(step, "name")?, text(step, "to")?);
-    let constants = copies(bench.alloc, items(step, "constants"))?;
-    shown(
-        bench.alloc,
-        bench.rc.register_local_helper(name, registered, constants),
-    )
+fn bind(
+    alloc: Global,
+    rc: &mut RenderContext,
+    step: &JsonValue,
+    constants: Result<Vec<JsonValue>, Stop>,
+) -> Answer {
+    let (name, registered) = (text(step, "name"), text(step, "to"));
+    match constants {
+        Ok(constants) => shown(alloc, rc.register_local_helper(name, registered, constants)),
+        Err(stop) => Err(stop),
+    }
 }
 
 fn copies(alloc: Global, values: &[JsonValue]) -> Result<Vec<JsonValue>, Stop> {
     let mut all = Vec::new(alloc);
+    let made = push_copies(&mut all, values);
+    if_made(all, made)
+}
+
+fn push_copies(all: &mut Vec<JsonValue>, values: &[JsonValue]) -> Result<(), Stop> {
     for value in values {
-        all.push(value.clone()?)?;
+        push(all, had(value.clone()))?;
     }
-    Ok(all)
+    Ok(())
 }
 
 // What the local helper of a name is registered under, and how many constants it has.
-fn local_helper(bench: &Bench, step: &JsonValue) -> Answer {
-    match bench.rc.get_local_helper(text(step, "name")?) {
-        Some(local) => shown(
-            bench.alloc,
-            (local.registered.as_str(), local.constants.len()),
-        ),
-        None => shown(bench.alloc, None::<&str>),
+fn local_helper(alloc: Global, rc: &RenderContext, name: &str) -> Answer {
+    match rc.get_local_helper(name) {
+        Some(local) => shown(alloc, (local.registered.as_str(), local.constants.len())),
+        None => shown(alloc, None::<&str>),
     }
 }
 
-// The current template has the name `to`, or none.
-fn set_name(bench: &mut Bench, step: &JsonValue) -> Answer {
-    let name = match value(step, "to")?.as_str() {
-        Some(name) => Some(owned(bench.alloc, name)?),
-        None => None,
-    };
-    bench.rc.set_current_template_name(name);
-    done(bench.alloc)
+fn set_context(alloc: Global, rc: &mut RenderContext, data: Result<Context, Stop>) -> Answer {
+    match data {
+        Ok(data) => {
+            rc.set_context(data);
+            done(alloc)
+        }
+        Err(stop) => Err(stop),
+    }
+}
+
+// The current template has this name, or none.
+fn set_name(alloc: Global, rc: &mut RenderContext, name: Result<Option<String>, Stop>) -> Answer {
+    match name {
+        Ok(name) => {
+            rc.set_current_template_name(name);
+            done(alloc)
+        }
+        Err(stop) => Err(stop),
+    }
 }
 
 // How many members were looked up since this was asked last.
-fn looked_up(bench: &mut Bench) -> Answer {
-    let now = bench.rc.looked_up();
-    let found = now.saturating_sub(bench.looked_up);
-    bench.looked_up = now;
-    shown(bench.alloc, found)
+fn looked_up_since(alloc: Global, rc: &RenderContext, before: &mut u64) -> Answer {
+    let now = rc.looked_up();
+    let found = now.saturating_sub(*before);
+    *before = now;
+    shown(alloc, found)
 }

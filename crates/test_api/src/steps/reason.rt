@@ -1,91 +1,111 @@
 //! What reasons print as, of those that no rendering of a row comes to.
 
-use crate::answer::{Answer, displayed, printed, shown};
-use crate::fields::{Stop, owned, text};
+use crate::answer::{Answer, Stop, printed, shown};
+use crate::fields::{owned, text};
+use crate::held::had;
 use handlebars::{
     JsonValue, RenderErrorReason as Reason, TemplateError, TemplateErrorReason as Broken,
 };
 use handlebars_base::output::output_fault;
-use std::alloc::Global;
+use std::alloc::{AllocError, Global};
 use std::fmt::Display;
 use std::io;
 
 /// What a call answers.
 pub fn answer(alloc: Global, call: &str, step: &JsonValue) -> Answer {
     match call {
-        "param_type" => param_type(alloc, step),
-        "hash_type" => hash_type(alloc, step),
-        "nested" => printed(
-            alloc,
-            Reason::NestedError(owned(alloc, text(step, "text")?)?),
-        ),
         "unimplemented" => printed(alloc, Reason::Unimplemented),
         "failed" => printed(alloc, Reason::Failed),
-        "walkdir" => printed(
-            alloc,
-            Broken::WalkdirError(owned(alloc, text(step, "text")?)?),
-        ),
-        "template_io" => template_io(alloc, step),
         "template" => printed(
             alloc,
             Reason::from(TemplateError::of(Broken::NestedSubexpression)),
         ),
-        "output" => output(alloc),
-        "json" => json(alloc, step),
-        "utf8" => utf8(alloc, step),
+        "output" => printed(alloc, output_fault(io::Error::other("disk"))),
+        "json" => json(
+            alloc,
+            text(step, "kind"),
+            JsonValue::from_str(alloc, text(step, "text")),
+        ),
+        "utf8" => utf8(alloc, text(step, "kind")),
+        "param_type" | "hash_type" => of_type(alloc, call, step),
+        _ => of_text(alloc, call, step),
+    }
+}
+
+fn printed_if<T: Display + Drop>(alloc: Global, reason: Result<T, AllocError>) -> Answer {
+    match reason {
+        Ok(reason) => printed(alloc, reason),
+        Err(AllocError) => Err(Stop::OutOfMemory),
+    }
+}
+
+// A reason that has one text.
+fn of_text(alloc: Global, call: &str, step: &JsonValue) -> Answer {
+    match call {
+        "nested" => printed_if(alloc, owned(alloc, step, "text").map(Reason::NestedError)),
+        "walkdir" => printed_if(alloc, owned(alloc, step, "text").map(Broken::WalkdirError)),
+        "template_io" => printed_if(alloc, owned(alloc, step, "name").map(io_error)),
         _ => Err(Stop::Call),
     }
 }
 
-fn param_type(alloc: Global, step: &JsonValue) -> Answer {
-    let name = owned(alloc, text(step, "name")?)?;
-    let kind = owned(alloc, text(step, "type")?)?;
-    printed(alloc, Reason::ParamTypeMismatchForName("len", name, kind))
+fn io_error(name: String) -> Broken {
+    Broken::IoError(io::Error::other("disk"), name)
 }
 
-fn hash_type(alloc: Global, step: &JsonValue) -> Answer {
-    let name = owned(alloc, text(step, "name")?)?;
-    let kind = owned(alloc, text(step, "type")?)?;
-    printed(alloc, Reason::HashTypeMismatchForName("len", name, kind))
+// A reason that has a name and a type.
+fn of_type(alloc: Global, call: &str, step: &JsonValue) -> Answer {
+    let (name, kind) = (owned(alloc, step, "name"), owned(alloc, step, "type"));
+    match (name, kind) {
+        (Ok(name), Ok(kind)) => printed(alloc, mismatch(call, name, kind)),
+        _ => Err(Stop::OutOfMemory),
+    }
 }
 
-fn template_io(alloc: Global, step: &JsonValue) -> Answer {
-    let name = owned(alloc, text(step, "name")?)?;
-    printed(alloc, Broken::IoError(io::Error::other("disk"), name))
-}
-
-// The fault of an output, whose reason is an error of the system's.
-fn output(alloc: Global) -> Answer {
-    let fault = output_fault(io::Error::other("disk"));
-    match fault.reason() {
-        Reason::IOError(_) => Ok(displayed(alloc, &fault)?),
-        _ => Err(Stop::Call),
+fn mismatch(call: &str, name: String, kind: String) -> Reason {
+    match call {
+        "param_type" => Reason::ParamTypeMismatchForName("len", name, kind),
+        _ => Reason::HashTypeMismatchForName("len", name, kind),
     }
 }
 
 // Whether the reason that is made of a cause is printed as its kind, and after that the cause.
-fn is_behind<E: Display + Drop>(alloc: Global, step: &JsonValue, cause: E) -> Answer
+fn is_behind<E: Display + Drop>(alloc: Global, kind: &str, cause: E) -> Answer
 where
     Reason: From<E>,
 {
-    let kind = text(step, "kind")?;
-    let wanted = format!(in alloc; "{kind}: {cause}")?;
-    let text = printed(alloc, Reason::from(cause))?;
-    shown(alloc, text.as_str() == wanted.as_str())
+    match format!(in alloc; "{kind}: {cause}") {
+        Ok(wanted) => prints(alloc, &Reason::from(cause), wanted.as_str()),
+        Err(AllocError) => Err(Stop::OutOfMemory),
+    }
+}
+
+fn prints(alloc: Global, reason: &Reason, wanted: &str) -> Answer {
+    match reason.to_string(alloc) {
+        Ok(text) => shown(alloc, text.as_str() == wanted),
+        Err(AllocError) => Err(Stop::OutOfMemory),
+    }
 }
 
 // Of the error of a text that isn't JSON.
-fn json(alloc: Global, step: &JsonValue) -> Answer {
-    match JsonValue::from_str(alloc, text(step, "text")?) {
-        Ok(_) => Err(Stop::Field("text")),
-        Err(cause) => is_behind(alloc, step, cause),
+fn json(alloc: Global, kind: &str, read: Result<JsonValue, serde_json::Error>) -> Answer {
+    match read {
+        Ok(_) => Err(Stop::Field),
+        Err(cause) => is_behind(alloc, kind, cause),
     }
 }
 
 // Of the error of bytes that aren't UTF-8.
-fn utf8(alloc: Global, step: &JsonValue) -> Answer {
-    match String::from_utf8(vec![in alloc; 255]?) {
+fn utf8(alloc: Global, kind: &str) -> Answer {
+    match had(vec![in alloc; 255]) {
+        Ok(bytes) => utf8_of(alloc, kind, bytes),
+        Err(stop) => Err(stop),
+    }
+}
+
+fn utf8_of(alloc: Global, kind: &str, bytes: Vec<u8>) -> Answer {
+    match String::from_utf8(bytes) {
         Ok(_) => Err(Stop::Call),
-        Err(cause) => is_behind(alloc, step, cause),
+        Err(cause) => is_behind(alloc, kind, cause),
     }
 }

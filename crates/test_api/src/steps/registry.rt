@@ -1,81 +1,71 @@
 //! Calls of a registry, but for those that register parts.
 
-use crate::answer::{Answer, done, shown};
-use crate::bench::Bench;
-use crate::fields::{Stop, flag, number, text};
+use crate::answer::{Answer, Stop, done, shown};
+use crate::fields::{flag, number, text};
+use crate::held::Held;
 use crate::made::tree::tree_of;
-use handlebars::JsonValue;
+use handlebars::{JsonValue, Registry, Template};
+use std::alloc::Global;
 
 /// What a call answers.
-pub fn answer(bench: &mut Bench, call: &str, step: &JsonValue) -> Answer {
+pub fn answer(alloc: Global, registry: &mut Registry, call: &str, step: &JsonValue) -> Answer {
+    let (name, source) = (text(step, "name"), text(step, "source"));
     match call {
-        "template" => template(bench, step),
-        "partial" => partial(bench, step),
-        "tree" => tree(bench, step),
-        "unregister_template" => unregister_template(bench, step),
-        "clear_templates" => {
-            bench.registry.clear_templates();
-            done(bench.alloc)
+        "template" => shown(alloc, registry.register_template_string(name, source)),
+        "partial" => shown(alloc, registry.register_partial(name, source)),
+        "tree" => put_tree(alloc, registry, name, tree_of(alloc, step)),
+        "unregister_template" => {
+            registry.unregister_template(name);
+            done(alloc)
         }
-        "limit" => limit(bench, step),
-        "settings" => settings(bench),
-        _ => mode(bench, call, step),
+        "clear_templates" => {
+            registry.clear_templates();
+            done(alloc)
+        }
+        "limit" => limit(alloc, registry, number(step, "to")),
+        "settings" => settings(alloc, registry),
+        _ => mode(alloc, registry, call, flag(step, "on")),
     }
 }
 
-fn template(bench: &mut Bench, step: &JsonValue) -> Answer {
-    let (name, source) = (text(step, "name")?, text(step, "source")?);
-    shown(
-        bench.alloc,
-        bench.registry.register_template_string(name, source),
-    )
-}
-
-fn partial(bench: &mut Bench, step: &JsonValue) -> Answer {
-    let (name, source) = (text(step, "name")?, text(step, "source")?);
-    shown(bench.alloc, bench.registry.register_partial(name, source))
-}
-
-fn tree(bench: &mut Bench, step: &JsonValue) -> Answer {
-    let name = text(step, "name")?;
-    let tree = tree_of(bench.alloc, step)?;
-    shown(
-        bench.alloc,
-        bench.registry.register_template(name, tree.into_value()),
-    )
-}
-
-fn unregister_template(bench: &mut Bench, step: &JsonValue) -> Answer {
-    bench.registry.unregister_template(text(step, "name")?);
-    done(bench.alloc)
-}
-
-fn limit(bench: &mut Bench, step: &JsonValue) -> Answer {
-    match u16::try_from(number(step, "to")?) {
-        Ok(limit) => bench.registry.set_inclusion_limit(limit),
-        Err(_) => return Err(Stop::Field("to")),
+fn put_tree(
+    alloc: Global,
+    registry: &mut Registry,
+    name: &str,
+    tree: Result<Held<Template>, Stop>,
+) -> Answer {
+    match tree {
+        Ok(tree) => shown(alloc, registry.register_template(name, tree.into_value())),
+        Err(stop) => Err(stop),
     }
-    done(bench.alloc)
+}
+
+fn limit(alloc: Global, registry: &mut Registry, limit: u64) -> Answer {
+    match u16::try_from(limit) {
+        Ok(limit) => {
+            registry.set_inclusion_limit(limit);
+            done(alloc)
+        }
+        Err(_) => Err(Stop::Field),
+    }
 }
 
 // Sets a mode, which is on or off.
-fn mode(bench: &mut Bench, call: &str, step: &JsonValue) -> Answer {
-    let on = flag(step, "on");
+fn mode(alloc: Global, registry: &mut Registry, call: &str, on: bool) -> Answer {
     match call {
-        "strict_mode" => bench.registry.set_strict_mode(on),
-        "dev_mode" => bench.registry.set_dev_mode(on),
-        "prevent_indent" => bench.registry.set_prevent_indent(on),
+        "strict_mode" => registry.set_strict_mode(on),
+        "dev_mode" => registry.set_dev_mode(on),
+        "prevent_indent" => registry.set_prevent_indent(on),
         _ => return Err(Stop::Call),
     }
-    done(bench.alloc)
+    done(alloc)
 }
 
 // Whether it is strict, in dev mode, and without indentation, and how many inclusions nest.
-fn settings(bench: &Bench) -> Answer {
-    let registry = &bench.registry;
+fn settings(alloc: Global, registry: &Registry) -> Answer {
     let modes = (registry.strict_mode(), registry.dev_mode());
     shown(
-        bench.alloc,
+        alloc,
         (modes, registry.prevent_indent(), registry.inclusion_limit()),
     )
 }

@@ -1,94 +1,100 @@
 //! Calls that render.
 
-use crate::answer::{Answer, debugged, done, printed, said, shown};
-use crate::bench::Bench;
+use crate::answer::{Answer, Stop, done, printed, said, shown};
 use crate::caller::rendered_again;
-use crate::fields::{Stop, text};
+use crate::fields::{text, text_at};
 use crate::held::Held;
-use crate::made::parameter::parameter_of;
+use crate::made::parameter::parameter_at;
 use crate::made::tree::{compiled, tree_of};
 use crate::made::view::decorator_of;
-use crate::state::context_of;
+use crate::state::{Given, context_of};
 use crate::steps::functions;
 use crate::strangers::rendered_alike;
 use handlebars::{
-    Context, Decorator, Expand, JsonValue, NoFiles, PathAndJson, RenderError, RenderErrorReason,
-    StringOutput, expand_partial,
+    Context, Decorator, Expand, JsonValue, NoFiles, Parameter, PathAndJson, Registry,
+    RenderContext, RenderError, RenderErrorReason, Renderable, StringOutput, Template,
+    expand_partial,
 };
 use log::sink::Discard;
-use std::alloc::Global;
+use std::alloc::{AllocError, Global};
+use std::fmt;
+use std::fmt::Display;
 use std::io::ErrorKind;
 
 /// What a call answers.
-pub fn answer(bench: &mut Bench, call: &str, step: &JsonValue) -> Answer {
+pub fn answer(
+    given: Given<'_>,
+    rc: &mut RenderContext,
+    out: &mut StringOutput,
+    call: &str,
+    step: &JsonValue,
+) -> Answer {
     match call {
-        "source" => source(bench, step),
-        "name" => name(bench, step),
-        "tree" => bench.renders(&tree_of(bench.alloc, step)?.value),
-        "write" => bench.writes(&tree_of(bench.alloc, step)?.value),
-        "partial" => partial(bench, step),
-        "error_name" => error_name(bench, step),
-        "error" => error(bench, step),
-        "again" => again(bench, step),
-        "alike" => alike(bench, step),
-        "include" => include(bench, step),
-        "expand" => expand(bench, step),
-        "expand_as_name" => expand_as_name(bench, step),
-        "with_functions" => functions::rendered(bench.alloc, step),
+        "tree" => texts(given, rc, tree_of(given.alloc, step)),
+        "write" => writes(given, rc, out, tree_of(given.alloc, step)),
+        "partial" => partial(given.alloc, rc, text(step, "name")),
+        "include" => include(given, rc, step),
+        "expand" => expand(given, rc, parameter_at(given.alloc, step, "parameter")),
+        "expand_as_name" => {
+            expand_as_name(given, rc, parameter_at(given.alloc, step, "parameter"))
+        }
+        "with_functions" => functions::rendered(given.alloc, step),
+        _ => of_registry(given, call, step),
+    }
+}
+
+fn of_registry(given: Given<'_>, call: &str, step: &JsonValue) -> Answer {
+    let Given {
+        alloc,
+        registry,
+        data,
+    } = given;
+    let source = text(step, "source");
+    match call {
+        "source" => shown(alloc, of_source(given, source)),
+        "name" => shown(
+            alloc,
+            registry.render_with_context(text(step, "name"), data, &Discard, &mut NoFiles),
+        ),
+        "error_name" => name_in(alloc, of_source(given, source)),
+        "error" => error_in(alloc, of_source(given, source)),
+        "again" => shown(alloc, rendered_again(registry, source, data, &Discard)),
+        "alike" => alike(given, source, context_of(step, "other")),
         _ => Err(Stop::Call),
     }
 }
 
 // What the registry answers to a source over the data.
-fn of_source(bench: &Bench, source: &str) -> Result<String, RenderError> {
-    let (registry, data) = (&bench.registry, &bench.data);
-    registry.render_template_with_context(source, data, &Discard, &mut NoFiles)
+fn of_source(given: Given<'_>, source: &str) -> Result<String, RenderError> {
+    given
+        .registry
+        .render_template_with_context(source, given.data, &Discard, &mut NoFiles)
 }
 
-fn source(bench: &Bench, step: &JsonValue) -> Answer {
-    shown(bench.alloc, of_source(bench, text(step, "source")?))
-}
-
-fn name(bench: &Bench, step: &JsonValue) -> Answer {
-    let name = text(step, "name")?;
-    let (registry, data) = (&bench.registry, &bench.data);
-    shown(
-        bench.alloc,
-        registry.render_with_context(name, data, &Discard, &mut NoFiles),
-    )
-}
-
-// What a partial of the render context renders, with a registry, data and a context of its own.
-fn partial(bench: &Bench, step: &JsonValue) -> Answer {
-    match bench.rc.get_partial(text(step, "name")?) {
-        Some(partial) => {
-            let value = partial.clone(bench.alloc)?;
-            let partial = Held { value };
-            Bench::new(bench.alloc, Context::null())?.renders(&partial.value)
-        }
-        None => done(bench.alloc),
+// The name of the template in the error.
+fn name_in(alloc: Global, answer: Result<String, RenderError>) -> Answer {
+    match answer {
+        Ok(_) => done(alloc),
+        Err(error) => shown(alloc, &error.template_name),
     }
 }
 
-// The name of the template in the error of a source.
-fn error_name(bench: &Bench, step: &JsonValue) -> Answer {
-    match of_source(bench, text(step, "source")?) {
-        Ok(_) => done(bench.alloc),
-        Err(error) => shown(bench.alloc, &error.template_name),
+// The error as it is printed, behind the kind of its cause, if that is an error of the system's.
+fn error_in(alloc: Global, answer: Result<String, RenderError>) -> Answer {
+    match answer {
+        Ok(_) => done(alloc),
+        Err(error) => printed(alloc, BehindKind(&error)),
     }
 }
 
-// The error of a source as it is printed, behind the kind of its cause, if that is an error of the system's.
-fn error(bench: &Bench, step: &JsonValue) -> Answer {
-    match of_source(bench, text(step, "source")?) {
-        Ok(_) => done(bench.alloc),
-        Err(error) => printed_behind_kind(bench.alloc, &error),
-    }
-}
+#[derive(Clone, Copy)]
+struct BehindKind<'e>(&'e RenderError);
 
-fn printed_behind_kind(alloc: Global, error: &RenderError) -> Answer {
-    let kind = kind_of(error);
-    Ok(format!(in alloc; "{kind:?}: {error}")?)
+impl Display for BehindKind<'_> {
+    fn fmt<W: fmt::Write>(&self, f: &mut fmt::Formatter<W>) -> fmt::Result {
+        let kind = kind_of(self.0);
+        write!(f, "{kind:?}: {}", self.0)
+    }
 }
 
 fn kind_of(error: &RenderError) -> Option<ErrorKind> {
@@ -98,75 +104,186 @@ fn kind_of(error: &RenderError) -> Option<ErrorKind> {
     }
 }
 
-// The texts of a source, rendered twice.
-fn again(bench: &Bench, step: &JsonValue) -> Answer {
-    let source = text(step, "source")?;
-    shown(
-        bench.alloc,
-        rendered_again(&bench.registry, source, &bench.data, &Discard),
-    )
-}
-
-// The texts of a source over the data and over those of `other`, if its markup is fixed.
-fn alike(bench: &Bench, step: &JsonValue) -> Answer {
-    let source = text(step, "source")?;
-    let other = context_of(step, "other")?;
-    let (registry, data) = (&bench.registry, &bench.data);
-    shown(
-        bench.alloc,
-        rendered_alike(registry, source, data, &other, &Discard),
-    )
-}
-
-// What including by a view, with the block of the source `block`, answers and writes.
-fn include(bench: &mut Bench, step: &JsonValue) -> Answer {
-    match step.get("block").and_then(JsonValue::as_str) {
-        Some(source) => {
-            let block = compiled(bench.alloc, source)?;
-            includes(bench, &decorator_of(bench.alloc, step, Some(&block.value))?)
-        }
-        None => includes(bench, &decorator_of(bench.alloc, step, None)?),
+// The texts of a source over the data and over other ones, if its markup is fixed.
+fn alike(given: Given<'_>, source: &str, other: Result<Context, Stop>) -> Answer {
+    match other {
+        Ok(other) => shown(
+            given.alloc,
+            rendered_alike(given.registry, source, given.data, &other, &Discard),
+        ),
+        Err(stop) => Err(stop),
     }
 }
 
-fn includes(bench: &mut Bench, view: &Decorator) -> Answer {
-    let alloc = bench.alloc;
+// ---- in the render context
+
+/// The text of a tree or of an element in the render context, or its refusal.
+pub fn text_of<T: Renderable>(given: Given<'_>, rc: &mut RenderContext, rendered: &T) -> Answer {
+    let Given {
+        alloc,
+        registry,
+        data,
+    } = given;
+    shown(alloc, rendered.renders(alloc, registry, data, rc, &Discard))
+}
+
+fn texts(given: Given<'_>, rc: &mut RenderContext, tree: Result<Held<Template>, Stop>) -> Answer {
+    match tree {
+        Ok(tree) => text_of(given, rc, &tree.value),
+        Err(stop) => Err(stop),
+    }
+}
+
+// What writing a tree into the output answers.
+fn writes(
+    given: Given<'_>,
+    rc: &mut RenderContext,
+    out: &mut StringOutput,
+    tree: Result<Held<Template>, Stop>,
+) -> Answer {
+    let Given {
+        alloc,
+        registry,
+        data,
+    } = given;
+    match tree {
+        Ok(tree) => shown(
+            alloc,
+            tree.value.render(alloc, registry, data, rc, out, &Discard),
+        ),
+        Err(stop) => Err(stop),
+    }
+}
+
+// What a partial of the render context renders, with a registry, data and a context of its own.
+fn partial(alloc: Global, rc: &RenderContext, name: &str) -> Answer {
+    match rc.get_partial(name) {
+        Some(partial) => rendered_alone(alloc, Registry::new(alloc), partial),
+        None => done(alloc),
+    }
+}
+
+fn rendered_alone(
+    alloc: Global,
+    registry: Result<Registry, AllocError>,
+    tree: &Template,
+) -> Answer {
+    match registry {
+        Ok(registry) => rendered_in(alloc, &registry, RenderContext::new(alloc, None), tree),
+        Err(AllocError) => Err(Stop::OutOfMemory),
+    }
+}
+
+fn rendered_in(
+    alloc: Global,
+    registry: &Registry,
+    rc: Result<RenderContext, AllocError>,
+    tree: &Template,
+) -> Answer {
+    let data = Context::null();
+    match rc {
+        Ok(mut rc) => shown(
+            alloc,
+            tree.renders(alloc, registry, &data, &mut rc, &Discard),
+        ),
+        Err(AllocError) => Err(Stop::OutOfMemory),
+    }
+}
+
+// What including by a view, with the block of the source `block`, answers and writes.
+fn include(given: Given<'_>, rc: &mut RenderContext, step: &JsonValue) -> Answer {
+    match text_at(step, "block") {
+        Some(source) => include_with(given, rc, step, compiled(given.alloc, source)),
+        None => includes(given, rc, decorator_of(given.alloc, step, None)),
+    }
+}
+
+fn include_with(
+    given: Given<'_>,
+    rc: &mut RenderContext,
+    step: &JsonValue,
+    block: Result<Held<Template>, Stop>,
+) -> Answer {
+    match block {
+        Ok(block) => includes(
+            given,
+            rc,
+            decorator_of(given.alloc, step, Some(&block.value)),
+        ),
+        Err(stop) => Err(stop),
+    }
+}
+
+fn includes(given: Given<'_>, rc: &mut RenderContext, view: Result<Decorator<'_>, Stop>) -> Answer {
+    match view {
+        Ok(view) => included(given, rc, &view),
+        Err(stop) => Err(stop),
+    }
+}
+
+fn included(given: Given<'_>, rc: &mut RenderContext, view: &Decorator<'_>) -> Answer {
+    let Given {
+        alloc,
+        registry,
+        data,
+    } = given;
     let mut out = StringOutput::new(alloc);
-    let (registry, data, rc) = (&bench.registry, &bench.data, &mut bench.rc);
     let answer = expand_partial(alloc, view, registry, data, rc, &mut out, &Discard);
     shown(alloc, (answer, out.into_string()))
 }
 
 // What a parameter comes to, or what its error says.
-fn expand(bench: &mut Bench, step: &JsonValue) -> Answer {
-    let alloc = bench.alloc;
-    let value = parameter_of(alloc, crate::fields::value(step, "parameter")?)?;
-    let parameter = Held { value };
-    let (registry, data, rc) = (&bench.registry, &bench.data, &mut bench.rc);
-    match parameter.value.expand(alloc, registry, data, rc, &Discard) {
-        Ok(given) => expanded(alloc, &given),
-        Err(error) => said(alloc, &error),
+fn expand(given: Given<'_>, rc: &mut RenderContext, parameter: Result<Parameter, Stop>) -> Answer {
+    let Given {
+        alloc,
+        registry,
+        data,
+    } = given;
+    match parameter {
+        Ok(parameter) => expanded(alloc, parameter.expand(alloc, registry, data, rc, &Discard)),
+        Err(stop) => Err(stop),
     }
 }
 
 // Its path as written and in the data, its value, the constant, and whether it is missing.
-fn expanded(alloc: Global, given: &PathAndJson) -> Answer {
+fn expanded(alloc: Global, answer: Result<PathAndJson<'_>, RenderError>) -> Answer {
+    match answer {
+        Ok(given) => told(alloc, &given),
+        Err(error) => said(alloc, &error),
+    }
+}
+
+fn told(alloc: Global, given: &PathAndJson<'_>) -> Answer {
     let places = (given.relative_path(), given.context_path());
     let constant = given.try_get_constant_value();
-    let told = (places, given.value(), constant, given.is_value_missing());
-    Ok(debugged(alloc, told)?)
+    shown(
+        alloc,
+        (places, given.value(), constant, given.is_value_missing()),
+    )
 }
 
 // The name that a parameter comes to, or what its error says.
-fn expand_as_name(bench: &mut Bench, step: &JsonValue) -> Answer {
-    let alloc = bench.alloc;
-    let value = parameter_of(alloc, crate::fields::value(step, "parameter")?)?;
-    let parameter = Held { value };
-    let (registry, data, rc) = (&bench.registry, &bench.data, &mut bench.rc);
-    match parameter
-        .value
-        .expand_as_name(alloc, registry, data, rc, &Discard)
-    {
+fn expand_as_name(
+    given: Given<'_>,
+    rc: &mut RenderContext,
+    parameter: Result<Parameter, Stop>,
+) -> Answer {
+    let Given {
+        alloc,
+        registry,
+        data,
+    } = given;
+    match parameter {
+        Ok(parameter) => named(
+            alloc,
+            parameter.expand_as_name(alloc, registry, data, rc, &Discard),
+        ),
+        Err(stop) => Err(stop),
+    }
+}
+
+fn named<T: Display + Drop>(alloc: Global, answer: Result<T, RenderError>) -> Answer {
+    match answer {
         Ok(name) => printed(alloc, name),
         Err(error) => said(alloc, &error),
     }

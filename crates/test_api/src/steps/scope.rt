@@ -1,156 +1,174 @@
 //! Variables, names that are bound, and a block of scope, made by hand.
 
-use crate::answer::{Answer, debugged, done, shown};
-use crate::fields::{Stop, items, owned, owned_all, text, value};
-use crate::held::taken;
+use crate::answer::{Answer, Stop, done, done_if, shown};
+use crate::fields::{copied, items, owned, owned_all, text};
+use crate::held::{had, push, put, taken};
 use crate::state::Scopes;
-use handlebars::{BlockParamHolder, BlockParams, JsonValue, Template};
-use std::alloc::Global;
+use handlebars::{
+    BlockContext, BlockParamHolder, BlockParams, JsonValue, LocalVars, Template, TemplateError,
+};
+use std::alloc::{AllocError, Global};
 use std::rc::Rc;
 
 /// What a call answers.
-pub fn answer(scopes: &mut Scopes, call: &str, step: &JsonValue) -> Answer {
+pub fn answer(alloc: Global, scopes: &mut Scopes, call: &str, step: &JsonValue) -> Answer {
     match call {
-        "put" => put(scopes, step),
-        "get" => shown(scopes.alloc, scopes.variables.get(text(step, "name")?)),
-        "copy" => {
-            scopes.variables = scopes.variables.clone()?;
-            done(scopes.alloc)
-        }
-        "add_path" => add_path(scopes, step),
-        "add_value" => add_value(scopes, step),
-        "param" => param(scopes.alloc, scopes.params.get(text(step, "name")?)),
-        "take_params" => take_params(scopes),
-        _ => of_block(scopes, call, step),
+        "copy" => done_if(alloc, copy(&mut scopes.variables)),
+        "put" => put_in(alloc, &mut scopes.variables, step),
+        "get" => shown(alloc, scopes.variables.get(text(step, "name"))),
+        "take_params" => take_params(alloc, scopes),
+        "add_path" | "add_value" | "param" => of_params(alloc, &mut scopes.params, call, step),
+        _ => of_block(alloc, &mut scopes.block, call, step),
     }
 }
 
-fn put(scopes: &mut Scopes, step: &JsonValue) -> Answer {
-    let value = value(step, "value")?.clone()?;
-    shown(
-        scopes.alloc,
-        scopes.variables.put(text(step, "name")?, value),
-    )
+fn copy(variables: &mut LocalVars) -> Result<(), Stop> {
+    put(variables, had(variables.clone()))
 }
 
-fn add_path(scopes: &mut Scopes, step: &JsonValue) -> Answer {
-    let path = owned_all(scopes.alloc, items(step, "path"))?;
-    shown(
-        scopes.alloc,
-        scopes.params.add_path(text(step, "name")?, path),
-    )
+// Puts a value under a name.
+fn put_in(alloc: Global, variables: &mut LocalVars, step: &JsonValue) -> Answer {
+    match copied(step, "value") {
+        Ok(value) => shown(alloc, variables.put(text(step, "name"), value)),
+        Err(AllocError) => Err(Stop::OutOfMemory),
+    }
 }
 
-fn add_value(scopes: &mut Scopes, step: &JsonValue) -> Answer {
-    let value = value(step, "value")?.clone()?;
-    shown(
-        scopes.alloc,
-        scopes.params.add_value(text(step, "name")?, value),
-    )
+// The names that were added become those of the block, with none in their place.
+fn take_params(alloc: Global, scopes: &mut Scopes) -> Answer {
+    let params = std::mem::replace(&mut scopes.params, BlockParams::new(alloc));
+    scopes.block.set_block_params(params);
+    done(alloc)
+}
+
+fn of_params(alloc: Global, params: &mut BlockParams, call: &str, step: &JsonValue) -> Answer {
+    match call {
+        "add_path" => add_path(alloc, params, step),
+        "add_value" => add_value(alloc, params, step),
+        _ => param(alloc, params.get(text(step, "name"))),
+    }
+}
+
+fn add_path(alloc: Global, params: &mut BlockParams, step: &JsonValue) -> Answer {
+    match owned_all(alloc, items(step, "path")) {
+        Ok(path) => shown(alloc, params.add_path(text(step, "name"), path)),
+        Err(AllocError) => Err(Stop::OutOfMemory),
+    }
+}
+
+fn add_value(alloc: Global, params: &mut BlockParams, step: &JsonValue) -> Answer {
+    match copied(step, "value") {
+        Ok(value) => shown(alloc, params.add_value(text(step, "name"), value)),
+        Err(AllocError) => Err(Stop::OutOfMemory),
+    }
 }
 
 // What a name is bound to: a path or a value.
 fn param(alloc: Global, holder: Option<&BlockParamHolder>) -> Answer {
     match holder {
-        Some(BlockParamHolder::Path(path)) => Ok(debugged(
-            alloc,
-            (Some(path), None::<&JsonValue>),
-        )?),
-        Some(BlockParamHolder::Value(value)) => Ok(debugged(alloc, (None::<&str>, Some(value)))?),
-        None => Ok(debugged(alloc, (None::<&str>, None::<&str>))?),
+        Some(BlockParamHolder::Path(path)) => shown(alloc, (Some(path), None::<&JsonValue>)),
+        Some(BlockParamHolder::Value(value)) => shown(alloc, (None::<&str>, Some(value))),
+        None => shown(alloc, (None::<&str>, None::<&str>)),
     }
 }
 
-// The names that were added become those of the block, with none in their place.
-fn take_params(scopes: &mut Scopes) -> Answer {
-    let none = BlockParams::new(scopes.alloc);
-    let params = std::mem::replace(&mut scopes.params, none);
-    scopes.block.set_block_params(params);
-    done(scopes.alloc)
+// ---- a block
+
+fn of_block(alloc: Global, block: &mut BlockContext, call: &str, step: &JsonValue) -> Answer {
+    let name = text(step, "name");
+    match call {
+        "block_param" => param(alloc, block.get_block_param(name)),
+        "block_base" => base(alloc, block),
+        "block_var" => shown(alloc, block.get_local_var(name)),
+        "block_get" => shown(alloc, block.local_variables().get(name)),
+        "block_partial" => shown(alloc, block.get_local_partial(name)),
+        _ => change(alloc, block, call, step),
+    }
 }
 
-fn of_block(scopes: &mut Scopes, call: &str, step: &JsonValue) -> Answer {
+fn change(alloc: Global, block: &mut BlockContext, call: &str, step: &JsonValue) -> Answer {
     match call {
-        "block_follow" => follow(scopes, step),
-        "block_bind" => bind(scopes, step),
-        "block_param" => param(
-            scopes.alloc,
-            scopes.block.get_block_param(text(step, "name")?),
-        ),
-        "block_base" => base(scopes),
-        "block_set_base" => {
-            scopes.block.set_base_value(value(step, "value")?.clone()?);
-            done(scopes.alloc)
-        }
-        "block_set_var" => set_var(scopes, step),
-        "block_var" => shown(
-            scopes.alloc,
-            scopes.block.get_local_var(text(step, "name")?),
-        ),
-        "block_put" => put_in_block(scopes, step),
-        "block_get" => shown(
-            scopes.alloc,
-            scopes.block.local_variables().get(text(step, "name")?),
-        ),
-        "block_set_partial" => set_partial(scopes, step),
-        "block_partial" => {
-            shown(
-                scopes.alloc,
-                scopes.block.get_local_partial(text(step, "name")?),
-            )
-        }
+        "block_follow" => follow(alloc, block, step),
+        "block_bind" => bind(alloc, block, text(step, "name"), holder_of(alloc, step)),
+        "block_put" => put_in(alloc, block.local_variables_mut(), step),
+        "block_set_base" => set_base(alloc, block, copied(step, "value")),
+        "block_set_var" => { set_var(alloc, block, text(step, "name"), copied(step, "value")) }
+        "block_set_partial" => set_partial(alloc, block, step),
         _ => Err(Stop::Call),
     }
 }
 
 // Its path and its value.
-fn base(scopes: &Scopes) -> Answer {
-    let base = (scopes.block.base_path(), scopes.block.base_value());
-    Ok(debugged(scopes.alloc, base)?)
+fn base(alloc: Global, block: &BlockContext) -> Answer {
+    shown(alloc, (block.base_path(), block.base_value()))
 }
 
 // The path of the block goes on by a name.
-fn follow(scopes: &mut Scopes, step: &JsonValue) -> Answer {
-    let name = owned(scopes.alloc, text(step, "name")?)?;
-    scopes.block.base_path_mut().push(name)?;
-    done(scopes.alloc)
+fn follow(alloc: Global, block: &mut BlockContext, step: &JsonValue) -> Answer {
+    done_if(
+        alloc,
+        push(block.base_path_mut(), had(owned(alloc, step, "name"))),
+    )
+}
+
+// A value, or a path.
+fn holder_of(alloc: Global, step: &JsonValue) -> Result<BlockParamHolder, AllocError> {
+    match step.get("value") {
+        Some(value) => value.clone().map(BlockParamHolder::value),
+        None => owned_all(alloc, items(step, "path")).map(BlockParamHolder::path),
+    }
 }
 
 // Binds a name to a value, or to a path.
-fn bind(scopes: &mut Scopes, step: &JsonValue) -> Answer {
-    let holder = match step.get("value") {
-        Some(value) => BlockParamHolder::value(value.clone()?),
-        None => BlockParamHolder::path(owned_all(scopes.alloc, items(step, "path"))?),
-    };
-    shown(
-        scopes.alloc,
-        scopes.block.set_block_param(text(step, "name")?, holder),
-    )
+fn bind(
+    alloc: Global,
+    block: &mut BlockContext,
+    name: &str,
+    holder: Result<BlockParamHolder, AllocError>,
+) -> Answer {
+    match holder {
+        Ok(holder) => shown(alloc, block.set_block_param(name, holder)),
+        Err(AllocError) => Err(Stop::OutOfMemory),
+    }
 }
 
-fn set_var(scopes: &mut Scopes, step: &JsonValue) -> Answer {
-    let value = value(step, "value")?.clone()?;
-    shown(
-        scopes.alloc,
-        scopes.block.set_local_var(text(step, "name")?, value),
-    )
+fn set_base(
+    alloc: Global,
+    block: &mut BlockContext,
+    value: Result<JsonValue, AllocError>,
+) -> Answer {
+    match value {
+        Ok(value) => {
+            block.set_base_value(value);
+            done(alloc)
+        }
+        Err(AllocError) => Err(Stop::OutOfMemory),
+    }
 }
 
-fn put_in_block(scopes: &mut Scopes, step: &JsonValue) -> Answer {
-    let value = value(step, "value")?.clone()?;
-    let variables = scopes.block.local_variables_mut();
-    shown(scopes.alloc, variables.put(text(step, "name")?, value))
+fn set_var(
+    alloc: Global,
+    block: &mut BlockContext,
+    name: &str,
+    value: Result<JsonValue, AllocError>,
+) -> Answer {
+    match value {
+        Ok(value) => shown(alloc, block.set_local_var(name, value)),
+        Err(AllocError) => Err(Stop::OutOfMemory),
+    }
 }
 
-fn set_partial(scopes: &mut Scopes, step: &JsonValue) -> Answer {
-    let source = text(step, "source")?;
-    let partial = taken(
-        Template::compile(scopes.alloc, source),
-        Stop::Field("source"),
-    )?;
-    let partial = Rc::new(scopes.alloc, partial)?;
-    shown(
-        scopes.alloc,
-        scopes.block.set_local_partial(text(step, "name")?, partial),
-    )
+fn set_partial(alloc: Global, block: &mut BlockContext, step: &JsonValue) -> Answer {
+    let partial = shared(alloc, Template::compile(alloc, text(step, "source")));
+    match partial {
+        Ok(partial) => shown(alloc, block.set_local_partial(text(step, "name"), partial)),
+        Err(stop) => Err(stop),
+    }
+}
+
+fn shared(alloc: Global, tree: Result<Template, TemplateError>) -> Result<Rc<Template>, Stop> {
+    match taken(tree) {
+        Ok(tree) => had(Rc::new(alloc, tree)),
+        Err(stop) => Err(stop),
+    }
 }

@@ -1,54 +1,74 @@
 //! Trees that are made by hand, without a rendering.
 
-use crate::answer::{Answer, debugged, shown};
-use crate::fields::{Stop, flag, items, text, value};
-use crate::held::{Held, taken};
-use crate::made::parameter::{pairs_of, parameter_of, parameters_of, spec_of};
-use crate::made::tree::{compiled, element_of};
+use crate::answer::{Answer, Stop, shown, shown_if};
+use crate::fields::{flag, items, text};
+use crate::held::{Held, had};
+use crate::made::parameter::{pairs_of, parameter_at, parameters_of, spec_of};
+use crate::made::tree::{compiled, element_at};
 use handlebars::{
-    DecoratorTemplate, HelperTemplate, JsonValue, Parameter, Subexpression, Template,
-    TemplateElement,
+    DecoratorTemplate, ExpressionSpec, HelperTemplate, JsonValue, Parameter, Subexpression,
+    Template, TemplateElement,
 };
-use std::alloc::Global;
+use std::alloc::{AllocError, Global};
+use std::collections::BTreeMap;
 
 /// What a call answers.
 pub fn answer(alloc: Global, call: &str, step: &JsonValue) -> Answer {
     match call {
         "new" => shown(alloc, Template::new(alloc)),
-        "copy" => copy(alloc, step),
-        "spec" => shown(alloc, spec_of(alloc, step)?),
-        "decorator" => decorator(alloc, step),
-        "helper" => helper(alloc, step),
-        "call" => subexpression(alloc, step),
-        "no_call" => no_call(alloc, step),
+        "copy" => copy(alloc, compiled(alloc, text(step, "source"))),
+        "spec" => shown_if(alloc, spec_of(alloc, step)),
+        "decorator" => decorator(
+            alloc,
+            spec_of(alloc, step),
+            flag(step, "indent_before_write"),
+        ),
+        "helper" => helper(alloc, spec_of(alloc, step), step),
+        "call" => call_and_read(
+            alloc,
+            call_of(alloc, step),
+            parameter_at(alloc, step, "reads"),
+        ),
+        "no_call" => no_call(alloc, element_at(alloc, step)),
         _ => Err(Stop::Call),
     }
 }
 
 // Whether a tree and its copy are equal.
-fn copy(alloc: Global, step: &JsonValue) -> Answer {
-    let template = compiled(alloc, text(step, "source")?)?;
-    let copy = Held {
-        value: template.value.clone(alloc)?,
-    };
-    shown(alloc, copy.value == template.value)
+fn copy(alloc: Global, tree: Result<Held<Template>, Stop>) -> Answer {
+    match tree {
+        Ok(tree) => is(alloc, tree.value.clone(alloc), &tree.value),
+        Err(stop) => Err(stop),
+    }
 }
 
-fn decorator(alloc: Global, step: &JsonValue) -> Answer {
-    let spec = spec_of(alloc, step)?;
-    shown(
-        alloc,
-        DecoratorTemplate::new(spec, flag(step, "indent_before_write")),
-    )
+fn is(alloc: Global, copy: Result<Template, AllocError>, tree: &Template) -> Answer {
+    match copy {
+        Ok(copy) => shown(alloc, copy == *tree),
+        Err(AllocError) => Err(Stop::OutOfMemory),
+    }
+}
+
+fn decorator(alloc: Global, spec: Result<ExpressionSpec, Stop>, indent: bool) -> Answer {
+    match spec {
+        Ok(spec) => shown(alloc, DecoratorTemplate::new(spec, indent)),
+        Err(stop) => Err(stop),
+    }
 }
 
 // Whether a call is a block, whether it is chained, and whether white stands before it.
-fn helper(alloc: Global, step: &JsonValue) -> Answer {
-    let spec = spec_of(alloc, step)?;
+fn helper(alloc: Global, spec: Result<ExpressionSpec, Stop>, step: &JsonValue) -> Answer {
+    match spec {
+        Ok(spec) => marks(alloc, &template_of(spec, step)),
+        Err(stop) => Err(stop),
+    }
+}
+
+fn template_of(spec: ExpressionSpec, step: &JsonValue) -> HelperTemplate {
     let (block, indent) = (flag(step, "is_block"), flag(step, "indent_before_write"));
     match flag(step, "chain") {
-        true => marks(alloc, &HelperTemplate::new_chain(spec, block, indent)),
-        false => marks(alloc, &HelperTemplate::new(spec, block, indent)),
+        true => HelperTemplate::new_chain(spec, block, indent),
+        false => HelperTemplate::new(spec, block, indent),
     }
 }
 
@@ -59,45 +79,70 @@ fn marks(alloc: Global, call: &HelperTemplate) -> Answer {
     )
 }
 
-// Whether a call that is made by hand is a helper's, its name, whether its element is an expression, and whether it is what
-// the text `reads` is read as.
-fn subexpression(alloc: Global, step: &JsonValue) -> Answer {
-    let name = parameter_of(alloc, value(step, "name")?)?;
-    let params = parameters_of(alloc, items(step, "params"))?;
-    let pairs = pairs_of(alloc, step)?;
-    let call = taken(
-        Subexpression::new(alloc, name, params, pairs),
-        Stop::OutOfMemory,
-    )?;
-    let call = Held {
-        value: Parameter::Subexpression(call),
-    };
-    let read = Held {
-        value: parameter_of(alloc, value(step, "reads")?)?,
-    };
-    match &call.value {
-        Parameter::Subexpression(made) => {
-            let is_expression = matches!(made.as_element(), TemplateElement::Expression(_));
-            let is_read = call.value == read.value;
-            shown(
-                alloc,
-                ((made.is_helper(), made.name()), is_expression, is_read),
-            )
-        }
-        _ => Err(Stop::Call),
+// A call that is made by hand.
+fn call_of(alloc: Global, step: &JsonValue) -> Result<Subexpression, Stop> {
+    called(
+        alloc,
+        parameter_at(alloc, step, "name"),
+        parameters_of(alloc, items(step, "params")),
+        pairs_of(alloc, step),
+    )
+}
+
+fn called(
+    alloc: Global,
+    name: Result<Parameter, Stop>,
+    params: Result<Vec<Parameter>, Stop>,
+    pairs: Result<BTreeMap<String, Parameter>, Stop>,
+) -> Result<Subexpression, Stop> {
+    match (name, params, pairs) {
+        (Ok(name), Ok(params), Ok(pairs)) => had(Subexpression::new(alloc, name, params, pairs)),
+        _ => Err(Stop::Field),
     }
 }
 
+// Whether a call is a helper's, its name, whether its element is an expression, and whether it is what a text is read as.
+fn call_and_read(
+    alloc: Global,
+    call: Result<Subexpression, Stop>,
+    read: Result<Parameter, Stop>,
+) -> Answer {
+    match (call, read) {
+        (Ok(call), Ok(Parameter::Subexpression(read))) => compared(alloc, &call, &read),
+        _ => Err(Stop::Field),
+    }
+}
+
+fn compared(alloc: Global, call: &Subexpression, read: &Subexpression) -> Answer {
+    let is_expression = matches!(call.as_element(), TemplateElement::Expression(_));
+    let is_read = *call == *read;
+    shown(
+        alloc,
+        ((call.is_helper(), call.name()), is_expression, is_read),
+    )
+}
+
 // Whether another element in the place of a call is a helper's, its name, its parameters and its pairs.
-fn no_call(alloc: Global, step: &JsonValue) -> Answer {
-    let element = element_of(alloc, value(step, "element")?)?;
-    let other = Held {
-        value: Subexpression {
-            element: Box::new(alloc, element)?,
-        },
-    };
-    let other = &other.value;
-    let call = (other.is_helper(), other.name());
-    let told = (call, (other.params(), other.hash()));
-    Ok(debugged(alloc, told)?)
+fn no_call(alloc: Global, element: Result<TemplateElement, Stop>) -> Answer {
+    match element {
+        Ok(element) => in_place_of_call(alloc, had(Box::new(alloc, element))),
+        Err(stop) => Err(stop),
+    }
+}
+
+fn in_place_of_call(alloc: Global, element: Result<Box<TemplateElement>, Stop>) -> Answer {
+    match element {
+        Ok(element) => told(alloc, &Subexpression { element }),
+        Err(stop) => Err(stop),
+    }
+}
+
+fn told(alloc: Global, call: &Subexpression) -> Answer {
+    shown(
+        alloc,
+        (
+            (call.is_helper(), call.name()),
+            (call.params(), call.hash()),
+        ),
+    )
 }

@@ -1,63 +1,104 @@
 //! Values with where they came from.
 
-use crate::answer::{Answer, debugged, shown};
-use crate::fields::{Stop, flag};
-use crate::held::Held;
+use crate::answer::{Answer, Stop, kept, shown};
+use crate::fields::flag;
+use crate::held::had;
 use crate::made::scoped::{given_of, scoped_of};
 use crate::made::view::helper_of;
-use handlebars::{JsonRender, JsonValue, PathAndJson, ScopedJson, log_record};
+use handlebars::{Helper, JsonRender, JsonValue, PathAndJson, ScopedJson, log_record};
 use std::alloc::Global;
+use std::fmt::Debug;
 
 /// What a call answers.
 pub fn answer(alloc: Global, call: &str, step: &JsonValue) -> Answer {
     match call {
-        "render" => Ok(scoped(alloc, step)?.value.render(alloc)?),
-        "found" => found(alloc, &scoped(alloc, step)?.value),
-        "given" => given(alloc, step),
-        "relative_path" => shown(alloc, given_of(alloc, step)?.relative_path()),
-        "log_record" => record(alloc, step),
+        "render" => rendered(alloc, scoped(alloc, step)),
+        "found" => found(alloc, scoped(alloc, step)),
+        "given" => given(alloc, given_of(alloc, step)),
+        "relative_path" => relative_path(alloc, given_of(alloc, step)),
+        "log_record" => record(alloc, helper_of(alloc, step)),
         _ => Err(Stop::Call),
     }
 }
 
 // A value, or what is derived of it.
-fn scoped<'s>(alloc: Global, step: &'s JsonValue) -> Result<Held<ScopedJson<'s>>, Stop> {
-    let value = scoped_of(alloc, step)?;
+fn scoped<'s>(alloc: Global, step: &'s JsonValue) -> Result<ScopedJson<'s>, Stop> {
     match flag(step, "into_derived") {
-        true => Ok(Held {
-            value: value.into_derived(alloc)?,
-        }),
-        false => Ok(Held { value }),
+        true => derived(alloc, scoped_of(alloc, step)),
+        false => scoped_of(alloc, step),
+    }
+}
+
+fn derived<'s>(alloc: Global, value: Result<ScopedJson<'s>, Stop>) -> Result<ScopedJson<'s>, Stop> {
+    match value {
+        Ok(value) => had(value.into_derived(alloc)),
+        Err(stop) => Err(stop),
+    }
+}
+
+fn rendered(alloc: Global, value: Result<ScopedJson<'_>, Stop>) -> Answer {
+    match value {
+        Ok(value) => kept(value.render(alloc)),
+        Err(stop) => Err(stop),
     }
 }
 
 // Its place in the data, its value, and whether it is missing.
-fn found(alloc: Global, scoped: &ScopedJson<'_>) -> Answer {
-    let found = (scoped.context_path(), scoped.as_json(), scoped.is_missing());
-    Ok(debugged(alloc, found)?)
+fn found(alloc: Global, value: Result<ScopedJson<'_>, Stop>) -> Answer {
+    match value {
+        Ok(value) => shown(
+            alloc,
+            (value.context_path(), value.as_json(), value.is_missing()),
+        ),
+        Err(stop) => Err(stop),
+    }
 }
 
-fn given(alloc: Global, step: &JsonValue) -> Answer {
-    let value = given_of(alloc, step)?;
-    told(alloc, &Held { value }.value)
+fn relative_path(alloc: Global, given: Result<PathAndJson<'_>, Stop>) -> Answer {
+    match given {
+        Ok(given) => shown(alloc, given.relative_path()),
+        Err(stop) => Err(stop),
+    }
+}
+
+fn given(alloc: Global, given: Result<PathAndJson<'_>, Stop>) -> Answer {
+    match given {
+        Ok(given) => told(alloc, &given),
+        Err(stop) => Err(stop),
+    }
 }
 
 // The path as written, the full path, the constant, whether it is missing, the value, and its text, twice.
 fn told(alloc: Global, given: &PathAndJson<'_>) -> Answer {
     let value = given.value();
-    let own = value.render(alloc)?;
-    let text = given.render(alloc)?;
-    let constant = given.try_get_constant_value();
-    let missing = given.is_value_missing();
     let places = (given.relative_path(), given.context_path());
-    Ok(debugged(alloc, (places, constant, missing, value, own, text))?)
+    match (value.render(alloc), given.render(alloc)) {
+        (Ok(own), Ok(text)) => shown(
+            alloc,
+            (
+                places,
+                given.try_get_constant_value(),
+                given.is_value_missing(),
+                value,
+                own,
+                text,
+            ),
+        ),
+        _ => Err(Stop::OutOfMemory),
+    }
 }
 
 // The level and the line of a call of `log`, or its refusal.
-fn record(alloc: Global, step: &JsonValue) -> Answer {
-    let call = helper_of(alloc, step)?;
-    match log_record(alloc, &call) {
-        Ok(record) => shown(alloc, record),
+fn record(alloc: Global, call: Result<Helper<'_>, Stop>) -> Answer {
+    match call {
+        Ok(call) => either(alloc, log_record(alloc, &call)),
+        Err(stop) => Err(stop),
+    }
+}
+
+fn either<T: Debug + Drop, E: Debug + Drop>(alloc: Global, answer: Result<T, E>) -> Answer {
+    match answer {
+        Ok(value) => shown(alloc, value),
         Err(error) => shown(alloc, error),
     }
 }
