@@ -2,17 +2,17 @@
 
 ghost use Rattle.std.specs.Prelude.{◌≡◌, ◌<◌, ◌≤◌};
 
-use handlebars::{RenderError, TemplateError};
+use handlebars::{RenderError, RenderErrorReason, TemplateError, TemplateErrorReason};
 use std::alloc::AllocError;
 use std::fmt;
 
-/// Why a run ends before its words do.
-#[derive(Drop)]
+/// Why a run ends before its words do. (A work fails for want of memory alone, so the cause of a refusal isn't kept.)
+#[derive(Clone, Copy)]
 pub enum Failure {
     Usage,
     NotJson,
-    Uncompiled(TemplateError),
-    Refused(RenderError),
+    Uncompiled,
+    Refused,
     OutOfMemory,
     NoClock,
     CannotWrite,
@@ -28,8 +28,8 @@ impl Failure {
         match self {
             Failure::Usage => 2,
             Failure::NotJson => 1,
-            Failure::Uncompiled(_) => 1,
-            Failure::Refused(_) => 1,
+            Failure::Uncompiled => 1,
+            Failure::Refused => 1,
             Failure::OutOfMemory => 1,
             Failure::NoClock => 1,
             Failure::CannotWrite => 1,
@@ -45,13 +45,19 @@ impl From<AllocError> for Failure {
 
 impl From<TemplateError> for Failure {
     fn from(cause: TemplateError) -> Self {
-        Failure::Uncompiled(cause)
+        match cause.reason() {
+            TemplateErrorReason::OutOfMemory => Failure::OutOfMemory,
+            _ => Failure::Uncompiled,
+        }
     }
 }
 
 impl From<RenderError> for Failure {
     fn from(cause: RenderError) -> Self {
-        Failure::Refused(cause)
+        match cause.reason() {
+            RenderErrorReason::OutOfMemory => Failure::OutOfMemory,
+            _ => Failure::Refused,
+        }
     }
 }
 
@@ -62,8 +68,8 @@ impl fmt::Display for Failure {
                 f.write_str("usage: handlebars_bench [times=N] [writer] WORK[=SIZE] ..")
             }
             Failure::NotJson => f.write_str("handlebars_bench: not JSON"),
-            Failure::Uncompiled(cause) => write!(f, "{cause}"),
-            Failure::Refused(cause) => write!(f, "{cause}"),
+            Failure::Uncompiled => f.write_str("handlebars_bench: a template doesn't compile"),
+            Failure::Refused => f.write_str("handlebars_bench: a rendering is refused"),
             Failure::OutOfMemory => f.write_str("Out of memory"),
             Failure::NoClock => f.write_str("handlebars_bench: no clock"),
             Failure::CannotWrite => f.write_str("handlebars_bench: cannot write"),

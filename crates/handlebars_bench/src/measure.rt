@@ -5,12 +5,12 @@ use crate::counter::Counter;
 use crate::failure::Failure;
 use crate::pieces::Texts;
 use crate::work::Work;
-use handlebars::{Context, JsonValue, NoFiles, Registry, Template};
+use handlebars::{Context, JsonValue, NoFiles, Registry, Template, TemplateError};
 use log::sink::Discard;
-use std::alloc::Global;
+use std::alloc::{AllocError, Global};
 use std::io::{BufWriter, Write};
 use std::rt::Clock;
-use std::time::Duration;
+use std::time::{Duration, Instant};
 
 /// Where a work is rendered to.
 #[derive(Clone, Copy)]
@@ -91,7 +91,7 @@ fn measure_source<C: Clock>(
 
 fn context(alloc: Global, data: &str) -> Result<Context, Failure> {
     match JsonValue::from_str(alloc, data) {
-        Ok(value) => Ok(Context::try_from(value)?),
+        Ok(value) => made(Context::try_from(value)),
         Err(cause) => Err(if cause.is_memory() {
             Failure::OutOfMemory
         } else {
@@ -116,8 +116,18 @@ fn best_compiling<C: Clock>(
 
 fn one_compiling<C: Clock>(alloc: Global, clock: &C, source: &str) -> Result<Duration, Failure> {
     let start = now(clock)?;
-    let _template = Template::compile(alloc, source)?;
-    elapsed(clock, start)
+    time_of_tree(clock, start, Template::compile(alloc, source))
+}
+
+fn time_of_tree<C: Clock>(
+    clock: &C,
+    start: Instant,
+    tree: Result<Template, TemplateError>,
+) -> Result<Duration, Failure> {
+    match tree {
+        Ok(_tree) => elapsed(clock, start),
+        Err(error) => Err(error.into()),
+    }
 }
 
 // The bytes that the renderings of a source come to, and their least time.
@@ -128,14 +138,42 @@ fn best_rendering<C: Clock>(
     data: &Context,
     task: Task,
 ) -> Result<Rendering, Failure> {
-    let mut registry = Registry::new(alloc)?;
-    register(alloc, &mut registry, source)?;
-    best_of(alloc, clock, &registry, data, task)
+    match Registry::new(alloc) {
+        Ok(mut registry) => best_with(alloc, clock, &mut registry, source, data, task),
+        Err(AllocError) => Err(Failure::OutOfMemory),
+    }
 }
 
-fn register(alloc: Global, registry: &mut Registry, source: &str) -> Result<(), Failure> {
-    let template = Template::compile(alloc, source)?;
-    Ok(registry.register_template(NAME, template)?)
+fn best_with<C: Clock>(
+    alloc: Global,
+    clock: &C,
+    registry: &mut Registry,
+    source: &str,
+    data: &Context,
+    task: Task,
+) -> Result<Rendering, Failure> {
+    match register(registry, made(Template::compile(alloc, source))) {
+        Ok(()) => best_of(alloc, clock, registry, data, task),
+        Err(failure) => Err(failure),
+    }
+}
+
+fn register(registry: &mut Registry, tree: Result<Template, Failure>) -> Result<(), Failure> {
+    match tree {
+        Ok(tree) => made(registry.register_template(NAME, tree)),
+        Err(failure) => Err(failure),
+    }
+}
+
+// What was made, or why it wasn't.
+fn made<T, E>(answer: Result<T, E>) -> Result<T, Failure>
+where
+    Failure: From<E>,
+{
+    match answer {
+        Ok(value) => Ok(value),
+        Err(cause) => Err(Failure::from(cause)),
+    }
 }
 
 fn best_of<C: Clock>(
@@ -177,8 +215,11 @@ fn one_rendering<C: Clock>(
 }
 
 fn render_text(registry: &Registry, data: &Context) -> Result<usize, Failure> {
-    let text = registry.render_with_context(NAME, data, &Discard, &mut NoFiles)?;
-    Ok(text.len())
+    made(registry.render_with_context(NAME, data, &Discard, &mut NoFiles)).map(len)
+}
+
+fn len(text: String) -> usize {
+    text.len()
 }
 
 fn render_to_writer(alloc: Global, registry: &Registry, data: &Context) -> Result<usize, Failure> {
@@ -196,7 +237,7 @@ fn write_to(
     registry: &Registry,
     data: &Context,
 ) -> Result<(), Failure> {
-    registry.render_with_context_to_write(NAME, data, buffer, &Discard, &mut NoFiles)?;
+    made(registry.render_with_context_to_write(NAME, data, buffer, &Discard, &mut NoFiles))?;
     match buffer.flush() {
         Ok(()) => Ok(()),
         Err(_) => Err(Failure::CannotWrite),
@@ -205,6 +246,6 @@ fn write_to(
 
 fn render_pieces(alloc: Global, registry: &Registry, data: &Context) -> Result<usize, Failure> {
     let mut texts = Texts::new(alloc);
-    registry.render_pieces(NAME, data, &mut texts, &Discard, &mut NoFiles)?;
+    made(registry.render_pieces(NAME, data, &mut texts, &Discard, &mut NoFiles))?;
     Ok(texts.bytes())
 }
