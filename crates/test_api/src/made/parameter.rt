@@ -77,10 +77,20 @@ fn put_pair(
     key: Result<String, AllocError>,
     value: Result<Parameter, Stop>,
 ) -> Result<(), Stop> {
-    match (key, value) {
-        (Ok(key), Ok(value)) => had(pairs.insert(key, value)).map(let_go),
-        (_, Err(stop)) => Err(stop),
-        (Err(AllocError), _) => Err(Stop::OutOfMemory),
+    match key {
+        Ok(key) => put_value(pairs, key, value),
+        Err(AllocError) => Err(Stop::OutOfMemory),
+    }
+}
+
+fn put_value(
+    pairs: &mut BTreeMap<String, Parameter>,
+    key: String,
+    value: Result<Parameter, Stop>,
+) -> Result<(), Stop> {
+    match value {
+        Ok(value) => had(pairs.insert(key, value)).map(let_go),
+        Err(stop) => Err(stop),
     }
 }
 

@@ -1,8 +1,7 @@
 //! Values with where they came from.
 
 use crate::answer::Stop;
-use crate::fields::{items, owned, owned_all};
-use crate::held::had;
+use crate::fields::{copied, items, owned, owned_all};
 use handlebars::{JsonValue, PathAndJson, ScopedJson};
 use std::alloc::{AllocError, Global};
 
@@ -11,12 +10,17 @@ pub fn scoped_of<'s>(alloc: Global, it: &'s JsonValue) -> Result<ScopedJson<'s>,
     if let Some(value) = it.get("constant") {
         return Ok(ScopedJson::Constant(value));
     }
-    if let Some(value) = it.get("derived") {
-        return had(value.clone().map(ScopedJson::Derived));
+    match (it.get("derived"), it.get("found")) {
+        (Some(_), _) => derived(copied(it, "derived")),
+        (None, Some(value)) => found_at(value, owned_all(alloc, items(it, "at"))),
+        (None, None) => Ok(ScopedJson::Missing),
     }
-    match it.get("found") {
-        Some(value) => found_at(value, owned_all(alloc, items(it, "at"))),
-        None => Ok(ScopedJson::Missing),
+}
+
+fn derived<'s>(value: Result<JsonValue, AllocError>) -> Result<ScopedJson<'s>, Stop> {
+    match value {
+        Ok(value) => Ok(ScopedJson::Derived(value)),
+        Err(AllocError) => Err(Stop::OutOfMemory),
     }
 }
 

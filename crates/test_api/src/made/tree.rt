@@ -128,39 +128,42 @@ fn element_of(alloc: Global, it: &JsonValue) -> Result<TemplateElement, Stop> {
 
 // A call, whose field `is_block` says whether it is a block, with the body of the source `body`.
 fn call_of(alloc: Global, it: &JsonValue) -> Result<Box<HelperTemplate>, Stop> {
-    match spec_of(alloc, it) {
-        Ok(spec) => boxed_call(
-            alloc,
-            HelperTemplate::new(spec, flag(it, "is_block"), false),
-            it,
-        ),
-        Err(stop) => Err(stop),
-    }
-}
-
-fn boxed_call(
-    alloc: Global,
-    mut call: HelperTemplate,
-    it: &JsonValue,
-) -> Result<Box<HelperTemplate>, Stop> {
-    match put_body(alloc, &mut call.template, it) {
-        Ok(()) => had(Box::new(alloc, call)),
-        Err(stop) => Err(stop),
-    }
-}
-
-fn put_body(alloc: Global, body: &mut Option<Template>, it: &JsonValue) -> Result<(), Stop> {
+    let call = boxed(alloc, bare_call(spec_of(alloc, it), flag(it, "is_block")));
     match text_at(it, "body") {
-        Some(source) => put(body, taken(Template::compile(alloc, source).map(Some))),
-        None => Ok(()),
+        Some(source) => with_body(call, taken(Template::compile(alloc, source))),
+        None => call,
+    }
+}
+
+fn boxed<T: Drop>(alloc: Global, made: Result<T, Stop>) -> Result<Box<T>, Stop> {
+    match made {
+        Ok(value) => had(Box::new(alloc, value)),
+        Err(stop) => Err(stop),
+    }
+}
+
+fn bare_call(spec: Result<ExpressionSpec, Stop>, block: bool) -> Result<HelperTemplate, Stop> {
+    match spec {
+        Ok(spec) => Ok(HelperTemplate::new(spec, block, false)),
+        Err(stop) => Err(stop),
+    }
+}
+
+fn with_body(
+    call: Result<Box<HelperTemplate>, Stop>,
+    body: Result<Template, Stop>,
+) -> Result<Box<HelperTemplate>, Stop> {
+    match call {
+        Ok(mut call) => {
+            let made = put(&mut call.template, body.map(Some));
+            if_made(call, made)
+        }
+        Err(stop) => Err(stop),
     }
 }
 
 fn tag_of(alloc: Global, it: &JsonValue) -> Result<Box<DecoratorTemplate>, Stop> {
-    match spec_of(alloc, it).map(unindented) {
-        Ok(tag) => had(Box::new(alloc, tag)),
-        Err(stop) => Err(stop),
-    }
+    boxed(alloc, spec_of(alloc, it).map(unindented))
 }
 
 fn unindented(spec: ExpressionSpec) -> DecoratorTemplate {

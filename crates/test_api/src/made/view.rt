@@ -16,7 +16,10 @@ pub fn decorator_of<'s>(
     block: Option<&'s Template>,
 ) -> Result<Decorator<'s>, Stop> {
     let name = CowStr::Borrowed(text(it, "name"));
-    let indent = text_at(it, "indent").map(CowStr::Borrowed);
+    let indent = match text_at(it, "indent") {
+        Some(indent) => Some(CowStr::Borrowed(indent)),
+        None => None,
+    };
     let (mut params, mut pairs) = (Vec::new(alloc), BTreeMap::new(alloc));
     match put_given(alloc, &mut params, &mut pairs, it) {
         Ok(()) => Ok(Decorator::new(name, params, pairs, block, indent)),

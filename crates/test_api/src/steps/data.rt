@@ -1,7 +1,7 @@
 //! Data, and the values that are converted to it.
 
 use crate::answer::{Answer, Stop, done, done_if, kept, refused, shown};
-use crate::fields::{copied, items, number, text};
+use crate::fields::{copied, items, number, number_at, text};
 use crate::held::{had, if_made, put};
 use crate::state::context_of;
 use crate::steps::output::bytes_of;
@@ -34,16 +34,19 @@ pub fn answer(
 
 // Wraps a number of eight bits (`u8`), a number (`f64`) or a text (`str`).
 fn wrap(alloc: Global, data: &mut Context, step: &JsonValue) -> Answer {
-    if step.get("u8").is_some() {
-        return set_wrapped(
-            alloc,
-            data,
-            Context::wraps(alloc, &(number(step, "u8") as u8)),
-        );
+    if let Some(number) = number_at(step, "u8") {
+        return wrap_u8(alloc, data, u8::try_from(number).ok());
     }
     match step.get("f64").and_then(JsonValue::as_f64) {
         Some(number) => set_wrapped(alloc, data, Context::wraps(alloc, &number)),
         None => set_wrapped(alloc, data, Context::wraps(alloc, &text(step, "str"))),
+    }
+}
+
+fn wrap_u8(alloc: Global, data: &mut Context, number: Option<u8>) -> Answer {
+    match number {
+        Some(number) => set_wrapped(alloc, data, Context::wraps(alloc, &number)),
+        None => Err(Stop::Field),
     }
 }
 

@@ -74,16 +74,14 @@ fn is_behind<E: Display + Drop>(alloc: Global, kind: &str, cause: E) -> Answer
 where
     Reason: From<E>,
 {
-    match format!(in alloc; "{kind}: {cause}") {
-        Ok(wanted) => prints(alloc, &Reason::from(cause), wanted.as_str()),
-        Err(AllocError) => Err(Stop::OutOfMemory),
-    }
+    let wanted = format!(in alloc; "{kind}: {cause}");
+    prints(alloc, printed(alloc, Reason::from(cause)), wanted)
 }
 
-fn prints(alloc: Global, reason: &Reason, wanted: &str) -> Answer {
-    match reason.to_string(alloc) {
-        Ok(text) => shown(alloc, text.as_str() == wanted),
-        Err(AllocError) => Err(Stop::OutOfMemory),
+fn prints(alloc: Global, text: Answer, wanted: Result<String, AllocError>) -> Answer {
+    match (text, wanted) {
+        (Ok(text), Ok(wanted)) => shown(alloc, text == wanted),
+        _ => Err(Stop::OutOfMemory),
     }
 }
 
