@@ -5,7 +5,7 @@ import os
 import signal
 
 from sizes_cases import CASES, OPENING, Case, fixed, several, sized
-from sizes_runs import STACK, Task, put, refused, rendering_error, renders
+from sizes_runs import MEGABYTE, STACK, Task, put, refused, rendering_error, renders
 
 # ---- inclusions
 
@@ -89,7 +89,7 @@ def inclusions_of_itself_200_blocks():
         {"templates": endless, "name": "p", "json": data_of_depth(63), "text": "", **refusal},
     ]
     task = Task({"rows.json": json.dumps(rows).encode()}, ["rows.json"], b"rows.json: 0 of 3 rows differ\n")
-    task.program = "tests"
+    task.program, task.stack = "tests", 64 * MEGABYTE
     return task
 
 
