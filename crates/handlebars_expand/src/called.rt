@@ -108,6 +108,7 @@ impl<'a> Called<'a> {
 
     /// What a decorator or an inclusion sees of a tag: beside its values its body, and its indentation, which is the one in
     /// force followed by the tag's own.
+    #[inline(always)]
     pub fn of_tag(
         self,
         alloc: Global,
@@ -199,6 +200,7 @@ fn behind(alloc: Global, outer: &str, own: Option<&String>) -> Result<String, Al
 }
 
 /// The view of a decorator or an inclusion.
+#[inline(always)]
 pub fn view_of_tag<'a, P: Registered>(
     environment: &Environment<'_, 'a, P>,
     rc: &RenderContext,

@@ -3,17 +3,16 @@
 ghost use Rattle.std.specs.Prelude.{◌≡◌, not, IfOk, OnOk, OnErr, true, false, is_some, map, option_map, slice_get, string_bytes};
 ghost use Rattle.std.specs.Borrow.{sem};
 ghost use Rattle.serde_json.specs.View.{view};
-ghost use Rattle.handlebars_template.specs.TreeView.{binding_of, binding_view, tree_view};
+ghost use Rattle.handlebars_template.specs.TreeView.{tree_view};
 ghost use Rattle.handlebars_scope.specs.Contexts.{data_of};
-ghost use Rattle.handlebars_scope.specs.ScopeView.{frame_of, frames_of, variables_of};
+ghost use Rattle.handlebars_scope.specs.ScopeView.{frame_of, frames_of};
 ghost use Rattle.handlebars_helpers.specs.OwnView.{local_of};
-ghost use Rattle.handlebars_helpers.specs.Turns.{turn_frame};
-ghost use Rattle.handlebars_helpers.specs.View.{path_view, turn_view};
 ghost use Rattle.handlebars_expand.specs.Lending.{LendsBlock};
-ghost use Rattle.handlebars_meaning.specs.State.{push_frame, first_state, pop_frame, nearest_variables, partial_in, with_data, with_local, with_nearest, with_partial, without_local};
-ghost use Rattle.handlebars_expand.specs.View.{state_of, root_of, has_failed, HasOuter, IsKept, NearestBelow};
+ghost use Rattle.handlebars_meaning.specs.State.{push_frame, first_state, pop_frame, partial_in, with_data, with_local, without_local};
+ghost use Rattle.handlebars_expand.specs.View.{state_of, root_of, has_failed, IsKept};
 
 mod blocks;
+pub mod internal;
 mod lines;
 mod lookup;
 mod names;
@@ -22,16 +21,13 @@ use crate::context::blocks::Blocks;
 use crate::null::Null;
 use handlebars_base::json::value::Json;
 use handlebars_helpers::own::LocalHelper;
-use handlebars_helpers::turn::{Turn, set_up_next_turn, set_up_turn};
 use handlebars_scope::block::BlockContext;
 use handlebars_scope::context::Context;
 use handlebars_scope::context::looked_up::LookedUp;
 use handlebars_scope::line::LineState;
-use handlebars_scope::local_vars::LocalVars;
-use handlebars_template::template::{BlockParam, Template};
+use handlebars_template::template::Template;
 use std::alloc::{AllocError, Global};
 use std::collections::{BTreeMap, VecDeque};
-use std::rc::Rc;
 
 /// The state of a rendering: what templates change as they are rendered, and what decorators put in the place of
 /// the data and bind to names.
@@ -163,44 +159,6 @@ impl RenderContext {
         self.recursive_lookup = enabled;
     }
 
-    // Sets the nearest block up for a turn of `each`: the first one, or another one of the same.
-    pub fn set_up_turn(
-        &mut self,
-        first: bool,
-        binding: Option<&BlockParam>,
-        path: Option<&Vec<String>>,
-        turn: Turn,
-    ) -> Result<(), AllocError>
-        ensures ok { (first ≡ false → NearestBelow (path_view path.entry) (state_of self.old).blocks)
-            → OnOk result (state_of self.new ≡ with_nearest (turn_frame (path_view path.entry)
-            (binding_of (option_map (λ b. binding_view b.now) binding.entry)) (turn_view turn.entry))
-            (state_of self.old)) }
-        ensures outer { HasOuter self.old self.new }
-    {
-        match self.blocks.nearest_mut() {
-            Some(block) => {
-                if first {
-                    set_up_turn(self.alloc, block, binding, path, turn)
-                } else {
-                    set_up_next_turn(self.alloc, block, binding, path, turn)
-                }
-            }
-            None => Ok(()),
-        }
-    }
-
-    // The nearest block has this template under the name from now on; without any block nothing is changed.
-    pub fn set_partial(&mut self, name: &str, template: &Template) -> Result<(), AllocError>
-        ensures ok { OnOk result (state_of self.new
-            ≡ with_nearest (with_partial name.now (tree_view template.now)) (state_of self.old)) }
-        ensures kept { IsKept self.old self.new }
-    {
-        match self.blocks.nearest_mut() {
-            Some(block) => put_partial(self.alloc, block, name, template),
-            None => Ok(()),
-        }
-    }
-
     /// The partial of a name that a decorator set: the one of the nearest block that has one.
     pub fn get_partial(&self, name: &str) -> Option<&Template>
         ensures { option_map (λ t. tree_view t.now) result ≡ partial_in (state_of self.now).blocks name.now }
@@ -208,28 +166,6 @@ impl RenderContext {
         match self.blocks.partial(name) {
             Some(template) => Some(&**template),
             None => None,
-        }
-    }
-
-    // The partial of a name that a decorator set, shared with the block that has it, which may be given another one while
-    // this is rendered.
-    pub fn shared_partial(&self, name: &str) -> Result<Option<Rc<Template>>, AllocError>
-        ensures { IfOk result (λ shared. option_map (λ t. tree_view t.value) shared
-            ≡ partial_in (state_of self.now).blocks name.now) }
-    {
-        match self.blocks.partial(name) {
-            Some(template) => Ok(Some(template.clone()?)),
-            None => Ok(None),
-        }
-    }
-
-    // The variables of the nearest block; without any block there are none.
-    pub fn nearest_variables(&self) -> Result<LocalVars, AllocError>
-        ensures { IfOk result (λ variables. variables_of variables ≡ nearest_variables (state_of self.now).blocks) }
-    {
-        match self.blocks.nearest() {
-            Some(block) => block.local_variables().clone(),
-            None => Ok(LocalVars::new(self.alloc)),
         }
     }
 
@@ -267,24 +203,14 @@ impl RenderContext {
     {
         let name = String::from_str(self.alloc, name)?;
         let registered = String::from_str(self.alloc, registered)?;
-        self.bind_helper(
+        internal::bind_helper(
+            self,
             name,
             LocalHelper {
                 registered,
                 constants,
             },
         )
-    }
-
-    // Binds a name to a helper of its own, both of texts that nobody else needs.
-    pub fn bind_helper(&mut self, name: String, helper: LocalHelper) -> Result<(), AllocError>
-        ensures ok { OnOk result (state_of self.new
-            ≡ with_local (string_bytes name) (local_of helper) (state_of self.old)) }
-        ensures err { OnErr result (state_of self.new ≡ state_of self.old) }
-        ensures kept { IsKept self.old self.new }
-    {
-        self.local_helpers.insert(name, helper)?;
-        Ok(())
     }
 
     /// This name has no local helper any more.
@@ -325,31 +251,10 @@ impl RenderContext {
         self.escapes = !disable;
     }
 
-    // Whether values are escaped.
-    pub fn escapes(&self) -> bool
-        ensures { result ≡ (state_of self.now).escapes }
-    {
-        self.escapes
-    }
-
     // From now on renderings are refused.
     pub(super) fn fail(&mut self)
         ensures { self.new ≡ record self.old { failed = true } }
     {
         self.failed = true;
     }
-}
-
-// Puts a copy of a template under a name in a block.
-fn put_partial(
-    alloc: Global,
-    block: &mut BlockContext,
-    name: &str,
-    template: &Template,
-) -> Result<(), AllocError>
-    ensures ok { OnOk result (frame_of block.new ≡ with_partial name.now (tree_view template.now) (frame_of block.old)) }
-    ensures err { OnErr result (frame_of block.new ≡ frame_of block.old) }
-{
-    let copy = Rc::new(alloc, template.clone(alloc)?)?;
-    block.set_local_partial(name, copy)
 }

@@ -15,7 +15,7 @@ ghost use Rattle.handlebars_expand.specs.Inclusions.{HasBase, StandsAt, lent_fra
 ghost use Rattle.handlebars_expand.specs.Judgement.{InState};
 ghost use Rattle.handlebars_expand.specs.View.{setting_in, state_of, state_with, GivesValue, KeptIn, within, HasNodes};
 
-use crate::context::RenderContext;
+use crate::context::{RenderContext, internal};
 use crate::environment::Environment;
 use crate::registered::Registered;
 use handlebars_base::error::RenderError;
@@ -60,6 +60,7 @@ pub fn inclusion_block<'v, P: Registered>(
 
 // The value that an inclusion stands at, where there are no pairs and it can be lent: that of the first parameter, or
 // without one the current one.
+#[inline(always)]
 fn lent_base<'v, P: Registered>(
     tag: &'v Decorator,
     environment: &Environment<'v, 'v, P>,
@@ -140,7 +141,7 @@ fn current<P: Registered>(
         → HasBase p (tag_view tag.now) s view result) }
 {
     let here = here(environment.alloc);
-    match rc.reach(environment.given.data(), &here, environment.bases) {
+    match internal::reach(rc, environment.given.data(), &here, environment.bases) {
         Reached::Value(value) => Ok(merge(environment.alloc, value, tag.hash())?),
         Reached::Nothing => Ok(merge(environment.alloc, &Json::Null, tag.hash())?),
         Reached::NoIndex(name) => Err(wrong_index(environment.alloc, name)),

@@ -34,7 +34,7 @@ use crate::tree::render_tree;
 use handlebars_base::json::value::Json;
 use handlebars_expand::bound::BoundCall;
 use handlebars_expand::boxed::BoxedError;
-use handlebars_expand::context::RenderContext;
+use handlebars_expand::context::{RenderContext, internal};
 use handlebars_expand::environment::Environment;
 use handlebars_expand::registered::Registered;
 use handlebars_helpers::each_turns::Turns;
@@ -59,7 +59,7 @@ pub fn render_tag<'a, O, T: Telling<O>, P: Registered>(
 {
     match settle_tag(helper, environment, block, rc, sink) {
         Ok(Next::Done(line)) => {
-            rc.set_line(line);
+            internal::set_line(rc, line);
             Ok(())
         }
         Ok(Next::Branch(truth)) => render_branch(helper, environment, truth, rc, sink),
@@ -276,7 +276,7 @@ fn block_node<'a, P: Registered>(
 ) -> Option<&'a Json>
     ensures { IsNode (data_of environment.now.given.now) (frame_of scope.now).base_path (option_map (λ v. view v.now) result) }
 {
-    rc.node_at(environment.given.data(), scope.base_path())
+    internal::node_at(rc, environment.given.data(), scope.base_path())
 }
 
 // The value of the given data that a path leads to, if there is a path.
@@ -288,7 +288,7 @@ fn node_at<'a, P: Registered>(
     ensures { IsNodeAt (data_of environment.now.given.now) (path_view path.entry) (option_map (λ v. view v.now) result) }
 {
     match path {
-        Some(path) => rc.node_at(environment.given.data(), path),
+        Some(path) => internal::node_at(rc, environment.given.data(), path),
         None => None,
     }
 }

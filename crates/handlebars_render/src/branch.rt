@@ -19,7 +19,7 @@ ghost use Rattle.handlebars_expand.specs.View.{HasNodes};
 use handlebars_base::json::path::Path;
 use handlebars_base::json::value::JsonTruthy;
 use handlebars_expand::boxed::BoxedError;
-use handlebars_expand::context::RenderContext;
+use handlebars_expand::context::{RenderContext, internal};
 use handlebars_expand::environment::Environment;
 use handlebars_expand::registered::{Registered, Target};
 use handlebars_helpers::built_in::BuiltIn;
@@ -75,7 +75,7 @@ pub fn condition<P: Registered>(
     requires nodes { HasNodes environment.now rc.now }
     ensures { InState P.parts environment.now rc.now (λ p s. Judges p s (reference_of path.now) (answer_of result)) }
 {
-    match rc.reach(environment.given.data(), path, environment.bases) {
+    match internal::reach(rc, environment.given.data(), path, environment.bases) {
         Reached::Value(value) => Ok(value.is_truthy(false)),
         Reached::Nothing => Ok(false),
         Reached::NoIndex(name) => Err(not_an_index(environment.alloc, name)),

@@ -27,7 +27,7 @@ use crate::telling::Telling;
 use crate::write::{write_chosen, write_count, write_word};
 use handlebars_expand::bound::asked_name;
 use handlebars_expand::boxed::BoxedError;
-use handlebars_expand::context::RenderContext;
+use handlebars_expand::context::{RenderContext, internal};
 use handlebars_expand::environment::Environment;
 use handlebars_expand::own::{OwnChoice, choose_own};
 use handlebars_expand::registered::Registered;
@@ -154,7 +154,7 @@ pub fn block_at(
     ensures { IfOk result (λ block. frame_of block ≡ with_block (base_view base.entry) (call_binding (call_view helper.now))
         (nearest_variables (state_of rc.now).blocks)) }
 {
-    let variables = rc.nearest_variables()?;
+    let variables = internal::nearest_variables(rc)?;
     with_block(alloc, helper.block_param.as_ref(), base, variables)
 }
 

@@ -16,7 +16,7 @@ ghost use Rattle.handlebars_expand.specs.View.{IsKept, HasNodes};
 use handlebars_base::error::{RenderError, RenderErrorReason};
 use handlebars_expand::boxed::BoxedError;
 use handlebars_expand::called::view_of_tag;
-use handlebars_expand::context::RenderContext;
+use handlebars_expand::context::{RenderContext, internal};
 use handlebars_expand::environment::Environment;
 use handlebars_expand::registered::Registered;
 use handlebars_helpers::decorators::view::Decorator;
@@ -132,7 +132,8 @@ fn do_deed<P: Registered>(
             registered,
             constants,
         } => {
-            rc.bind_helper(
+            internal::bind_helper(
+                rc,
                 local,
                 LocalHelper {
                     registered,
@@ -162,7 +163,7 @@ fn set_partial<P: Registered>(
 {
     match tag.template() {
         Some(template) => {
-            rc.set_partial(name, template)?;
+            internal::set_partial(rc, name, template)?;
             Ok(())
         }
         None => Err(BoxedError::new(

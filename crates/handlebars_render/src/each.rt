@@ -27,7 +27,7 @@ use crate::sink::Sink;
 use crate::telling::Telling;
 use handlebars_base::json::value::Json;
 use handlebars_expand::boxed::BoxedError;
-use handlebars_expand::context::RenderContext;
+use handlebars_expand::context::{RenderContext, internal};
 use handlebars_expand::environment::Environment;
 use handlebars_expand::pieces::Spot;
 use handlebars_expand::registered::Registered;
@@ -120,7 +120,7 @@ fn take_turns<'a, O, T: Telling<O>, P: Registered>(
     let mut left = turns;
     let mut first = true;
     'turns: while let Some(turn) = left.next() {
-        rc.set_up_turn(first, helper.block_param.as_ref(), path, turn)?;
+        internal::set_up_turn(rc, first, helper.block_param.as_ref(), path, turn)?;
         first = false;
         let bases = Bases::block(None, turn_node(node, turn), environment.bases.behind());
         let nearer = Environment {

@@ -35,7 +35,7 @@ use handlebars_base::json::value::{Json, JsonRender, ScopedJson};
 use handlebars_expand::bound::bind_boxed;
 use handlebars_expand::boxed::BoxedError;
 use handlebars_expand::called::Called;
-use handlebars_expand::context::RenderContext;
+use handlebars_expand::context::{RenderContext, internal};
 use handlebars_expand::environment::Environment;
 use handlebars_expand::pieces::full_path;
 use handlebars_expand::registered::{Registered, helper_named, hook, hooked};
@@ -145,7 +145,7 @@ fn settle_path<'a, O, T: Telling<O>, P: Registered>(
             if T::asks() {
                 return settle_told(helper, environment, path, rc, sink);
             }
-            match rc.reach(environment.given.data(), path, environment.bases) {
+            match internal::reach(rc, environment.given.data(), path, environment.bases) {
                 Reached::Value(value) => settle_found(environment, value, None, rc, sink),
                 Reached::Nothing => settle_missing(
                     helper,
@@ -177,7 +177,7 @@ fn settle_told<'a, O, T: Telling<O>, P: Registered>(
         T.way.may_give before (answer_of result) held) }
     ensures same { IsSame sink.old sink.new }
 {
-    match rc.locate(environment.given.data(), path, environment.bases) {
+    match internal::locate(rc, environment.given.data(), path, environment.bases) {
         Located::Value(value, full) => settle_found(environment, value, full, rc, sink),
         Located::Nothing => {
             settle_missing(helper, environment, CowStr::Borrowed(path.raw()), rc)
@@ -269,7 +269,7 @@ fn settle_missing<'a, P: Registered>(
                 Err(e) => Err(e),
             }
         }
-        None => Ok(Next::Done(rc.line())),
+        None => Ok(Next::Done(internal::line(rc))),
     }
 }
 

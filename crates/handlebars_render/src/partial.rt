@@ -30,7 +30,7 @@ use handlebars_base::error::RenderErrorReason;
 use handlebars_expand::ahead::{Ahead, Kept};
 use handlebars_expand::boxed::BoxedError;
 use handlebars_expand::called::view_of_tag;
-use handlebars_expand::context::RenderContext;
+use handlebars_expand::context::{RenderContext, internal};
 use handlebars_expand::environment::Environment;
 use handlebars_expand::inclusion::{LentBlock, inclusion_block};
 use handlebars_expand::pieces::{Spot, Standing};
@@ -97,7 +97,7 @@ pub fn include<O, T: Telling<O>, P: Registered>(
     if is_partial_block(view.name()) {
         return render_kept(view, environment, rc, sink);
     }
-    let found = rc.shared_partial(view.name())?;
+    let found = internal::shared_partial(rc, view.name())?;
     let nearer = &*environment;
     match &found {
         Some(tree) => {
@@ -158,7 +158,7 @@ fn render_kept<O, T: Telling<O>, P: Registered>(
         return Err(refused(environment.alloc, RenderErrorReason::PartialBlockNotFound));
     };
     let nearer = Environment { ..*environment };
-    let name = rc.take_name();
+    let name = internal::take_name(rc);
     let answer = render_tree(&*body, &nearer, rc, sink);
     rc.set_current_template_name(name);
     answer
@@ -189,7 +189,7 @@ fn include_tree<'a, O, T: Telling<O>, P: Registered>(
         Ok(lent) => lent,
         Err(e) => return Err(BoxedError::new(environment.alloc, e)),
     };
-    let name = rc.begin(block)?;
+    let name = internal::begin(rc, block)?;
     let bases = Bases::block(base, None, environment.bases);
     let nearer = Environment {
         bases: &bases,
@@ -202,7 +202,7 @@ fn include_tree<'a, O, T: Telling<O>, P: Registered>(
         },
         None => render_under(tree, template, count, None, view, &nearer, rc, sink),
     };
-    rc.end(name);
+    internal::end(rc, name);
     answer
 }
 

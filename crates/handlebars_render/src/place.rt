@@ -18,7 +18,7 @@ ghost use Rattle.handlebars_base.specs.PathAndData.{PathAndData};
 use crate::branch::lone_path;
 use crate::next::Next;
 use handlebars_base::json::value::{Json, JsonTruthy};
-use handlebars_expand::context::RenderContext;
+use handlebars_expand::context::{RenderContext, internal};
 use handlebars_expand::environment::Environment;
 use handlebars_expand::registered::{Registered, Target};
 use handlebars_helpers::built_in::BuiltIn;
@@ -40,7 +40,7 @@ pub fn settle_placed<'a, P: Registered>(
 {
     let each = each_or_with(helper, target)?;
     let path = lone_path(helper)?;
-    let placed = rc.place(environment.given.data(), path, environment.bases);
+    let placed = internal::place(rc, environment.given.data(), path, environment.bases);
     let inverse = may_invert(helper, environment.parts.strict());
     if each {
         each_at(environment.alloc, placed, inverse)

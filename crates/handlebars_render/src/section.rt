@@ -26,7 +26,7 @@ use handlebars_base::json::path::{Path, read_path};
 use handlebars_base::json::value::{Json, PathAndJson, ScopedJson};
 use handlebars_expand::boxed::BoxedError;
 use handlebars_expand::called::{Called, helper_not_found};
-use handlebars_expand::context::RenderContext;
+use handlebars_expand::context::{RenderContext, internal};
 use handlebars_expand::environment::Environment;
 use handlebars_expand::registered::{Registered, Target};
 use handlebars_expand::value::{find, written};
@@ -134,7 +134,7 @@ fn placed_section<'a, P: Registered>(
     if lacks_body(helper) {
         return None;
     }
-    let placed = rc.place(environment.given.data(), path, environment.bases);
+    let placed = internal::place(rc, environment.given.data(), path, environment.bases);
     let inverse = may_invert(helper, environment.parts.strict());
     acts_at(environment.alloc, placed, inverse)
 }

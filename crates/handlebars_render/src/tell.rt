@@ -25,7 +25,7 @@ use handlebars_base::json::value::{Json, JsonRender};
 use handlebars_base::support::escape_html;
 use handlebars_expand::ahead::Kept;
 use handlebars_expand::boxed::BoxedError;
-use handlebars_expand::context::RenderContext;
+use handlebars_expand::context::{RenderContext, internal};
 use handlebars_expand::environment::Environment;
 use handlebars_expand::pieces::{Origin, PieceKind};
 use handlebars_scope::context::full_path::FullPath;
@@ -57,12 +57,12 @@ pub(super) fn tell_text<O, T: Telling<O>, P>(
     match tell_put(
         environment.alloc,
         environment.indent,
-        rc.line(),
+        internal::line(rc),
         text,
         &origin,
         sink,
     ) {
-        Ok(()) => Ok(rc.line().behind(text)),
+        Ok(()) => Ok(internal::line(rc).behind(text)),
         Err(e) => Err(e),
     }
 }
@@ -205,7 +205,7 @@ pub(super) fn tell_value<O, T: Telling<O>, P>(
     ensures same { IsSame sink.old sink.new }
 {
     match value {
-        None => Ok(rc.line()),
+        None => Ok(internal::line(rc)),
         Some(Json::String(text)) => {
             tell_escaped(environment, entities, text.as_str(), path, rc, sink)
         }
@@ -250,7 +250,7 @@ fn tell_escaped<O, T: Telling<O>, P>(
 pub(super) fn value_kind(rc: &RenderContext) -> PieceKind
     ensures { kind_seen result ≡ value_kind (state_of rc.now).escapes }
 {
-    if rc.escapes() {
+    if internal::escapes(rc) {
         PieceKind::EscapedValue
     } else {
         PieceKind::RawValue

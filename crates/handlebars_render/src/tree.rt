@@ -16,7 +16,7 @@ use crate::element::render_element;
 use crate::sink::Sink;
 use crate::telling::Telling;
 use handlebars_expand::boxed::BoxedError;
-use handlebars_expand::context::RenderContext;
+use handlebars_expand::context::{RenderContext, internal};
 use handlebars_expand::environment::Environment;
 use handlebars_expand::pieces::Spot;
 use handlebars_expand::registered::Registered;
@@ -45,7 +45,7 @@ pub fn render_tree<'a, O, T: Telling<O>, P: Registered>(
         room,
         ..*environment
     };
-    rc.enter(&template.name)?;
+    internal::enter(rc, &template.name)?;
     'elements: for (index, element) in template.elements.iter().enumerate() {
         if let Err(e) = render_placed(element, &template.mapping, index, &nearer, rc, sink) {
             let placed = placed(e, template.mapping.get(index));

@@ -30,7 +30,7 @@ use handlebars_base::json::value::{Json, JsonRender};
 use handlebars_base::output::{Output, output_fault};
 use handlebars_expand::ahead::Kept;
 use handlebars_expand::boxed::BoxedError;
-use handlebars_expand::context::RenderContext;
+use handlebars_expand::context::{RenderContext, internal};
 use handlebars_expand::environment::Environment;
 use handlebars_expand::pieces::PieceKind;
 use handlebars_expand::registered::Registered;
@@ -53,7 +53,7 @@ pub fn indent_aware_write<O: Output>(
 {
     match out.write(text) {
         Ok(()) => {
-            rc.pass_text(text);
+            internal::pass_text(rc, text);
             Ok(())
         }
         Err(fault) => Err(output_fault(fault)),
@@ -78,7 +78,7 @@ pub(super) fn write_text<O, T: Telling<O>, P>(
     if T::asks() {
         return match tell_text(environment, PieceKind::TemplateText, None, text, rc, sink) {
             Ok(line) => {
-                rc.set_line(line);
+                internal::set_line(rc, line);
                 Ok(())
             }
             Err(e) => Err(e),
@@ -88,14 +88,14 @@ pub(super) fn write_text<O, T: Telling<O>, P>(
         // As most are.
         None => match write_as_is(environment.alloc, text, sink) {
             Ok(()) => {
-                rc.pass_text(text);
+                internal::pass_text(rc, text);
                 Ok(())
             }
             Err(e) => Err(e),
         },
         Some(indent) => match write_text_under(environment.alloc, false, text, indent, rc, sink) {
             Ok(line) => {
-                rc.set_line(line);
+                internal::set_line(rc, line);
                 Ok(())
             }
             Err(e) => Err(e),
@@ -120,9 +120,9 @@ fn write_text_under<O, T: Telling<O>>(
         (answer_of result) (held_in T.way sink.new) }
     ensures same { IsSame sink.old sink.new }
 {
-    match sink.write_in_line(alloc, rc.line(), text, indent, entities) {
+    match sink.write_in_line(alloc, internal::line(rc), text, indent, entities) {
         // No entity ends a line.
-        Ok(()) => Ok(rc.line().behind(text)),
+        Ok(()) => Ok(internal::line(rc).behind(text)),
         Err(e) => Err(e),
     }
 }
@@ -146,7 +146,7 @@ pub(super) fn write_found<O, T: Telling<O>, P: Registered>(
         (moment kept rc.now (held_in T.way sink.old)) (answer_of result) (held_in T.way sink.new) }
     ensures same { IsSame sink.old sink.new }
 {
-    match entities_by(environment.parts.escape(), rc.escapes()) {
+    match entities_by(environment.parts.escape(), internal::escapes(rc)) {
         Some(entities) => {
             if T::asks() {
                 return tell_value(environment, entities, value, path, rc, sink);
@@ -186,7 +186,7 @@ fn write_by<O, T: Telling<O>, P>(
 {
     match value {
         Some(value) => write_value(environment, entities, value, rc, sink),
-        None => Ok(rc.line()),
+        None => Ok(internal::line(rc)),
     }
 }
 
@@ -207,7 +207,7 @@ fn write_value<O, T: Telling<O>, P>(
     match environment.indent {
         Some(indent) => write_value_under(environment.alloc, entities, value, indent, rc, sink),
         None => match sink.write_value(environment.alloc, value, entities) {
-            Ok(()) => Ok(rc.line().behind_value(value)),
+            Ok(()) => Ok(internal::line(rc).behind_value(value)),
             Err(e) => Err(e),
         },
     }
@@ -281,7 +281,7 @@ fn write_line<O, T: Telling<O>, P>(
 {
     match environment.indent {
         None => match write_as_is(environment.alloc, answer, sink) {
-            Ok(()) => Ok(rc.line().behind(answer)),
+            Ok(()) => Ok(internal::line(rc).behind(answer)),
             Err(e) => Err(e),
         },
         Some(indent) => write_text_under(environment.alloc, false, answer, indent, rc, sink),
@@ -325,7 +325,7 @@ pub(super) fn write_chosen<O, T: Telling<O>, P: Registered>(
 {
     match write_found(environment, value, None, rc, sink) {
         Ok(line) => {
-            rc.set_line(line);
+            internal::set_line(rc, line);
             Ok(())
         }
         Err(e) => Err(e),

@@ -1,11 +1,9 @@
 //! The state of the line that is being written.
 
 ghost use Rattle.std.specs.Prelude.{◌≡◌};
-ghost use Rattle.handlebars_scope.specs.LineView.{line_of};
-ghost use Rattle.handlebars_expand.specs.View.{state_behind, state_of, with_line, IsKept};
+ghost use Rattle.handlebars_expand.specs.View.{state_of, with_line, IsKept};
 
 use crate::context::RenderContext;
-use handlebars_scope::line::LineState;
 
 impl RenderContext {
     /// Whether indentation goes before the next text.
@@ -54,28 +52,5 @@ impl RenderContext {
         ensures kept { IsKept self.old self.new }
     {
         self.line.produced = produced;
-    }
-
-    // A text was written.
-    pub fn pass_text(&mut self, text: &str)
-        ensures state { state_of self.new ≡ state_behind text.now (state_of self.old) }
-        ensures kept { IsKept self.old self.new }
-    {
-        self.line = self.line.behind(text);
-    }
-
-    // The line that is being written.
-    pub fn line(&self) -> LineState
-        ensures { line_of result ≡ (state_of self.now).line }
-    {
-        self.line
-    }
-
-    // From now on this is the line that is being written.
-    pub fn set_line(&mut self, line: LineState)
-        ensures state { state_of self.new ≡ with_line (line_of line) (state_of self.old) }
-        ensures kept { IsKept self.old self.new }
-    {
-        self.line = line;
     }
 }

@@ -1,5 +1,5 @@
 use Rattle.handlebars_expand.proofs.Located.{without_path-nothing, without_path-refused, without_path-value}
-use Rattle.handlebars_expand.proofs.context.lookup.without_path.Goals as goal
+use Rattle.handlebars_expand.proofs.context.internal.without_path.Goals as goal
 
 pub returns-in-Value : goal.returns-in-Value
 returns-in-Value c = λ sought is. without_path-value sought _ (rw c.in-Value.is at is)

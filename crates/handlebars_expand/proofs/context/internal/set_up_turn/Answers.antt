@@ -7,20 +7,20 @@ use Rattle.handlebars_helpers.specs.Turns.{turn_frame}
 use Rattle.handlebars_helpers.specs.View.{path_view, turn_view}
 use Rattle.handlebars_expand.specs.View.{state_of}
 use Rattle.handlebars_expand.proofs.Nearest.{below-front, frames-turned, outer-turned}
-use Rattle.handlebars_expand.proofs.context.RenderContext.set_up_turn.Goals as goal
+use Rattle.handlebars_expand.proofs.context.internal.set_up_turn.Goals as goal
 
 pub returns-then-first-clause-ok : goal.returns-then-first-clause-ok
 returns-then-first-clause-ok c = λ below. on_ok_weaker c.set_up_turn.result
-    (λ is. ap (λ (fs : List Frame). record (state_of c.args.self.now) { blocks = fs })
+    (λ is. ap (λ (fs : List Frame). record (state_of c.args.rc.now) { blocks = fs })
     (frames-turned (turn_frame (path_view c.args.path) (binding_of (option_map (λ b. binding_view b.now) c.args.binding))
-    (turn_view c.args.turn)) c.args.self.now.blocks.all.items (frame_of c.in-Some.block.now) c.set_up_turn.new.block
+    (turn_view c.args.turn)) c.args.rc.now.blocks.all.items (frame_of c.in-Some.block.now) c.set_up_turn.new.block
     c.in-Some.ensures.value is))
     c.set_up_turn.ensures
 
 pub returns-then-first-clause-outer : goal.returns-then-first-clause-outer
 returns-then-first-clause-outer c = record {
   root = refl;
-  blocks = outer-turned c.args.self.now.blocks.all.items c.set_up_turn.new.block;
+  blocks = outer-turned c.args.rc.now.blocks.all.items c.set_up_turn.new.block;
   recursive = refl;
   escapes = refl;
   failed = refl;
@@ -28,17 +28,17 @@ returns-then-first-clause-outer c = record {
 
 pub returns-else-first-clause-ok : goal.returns-else-first-clause-ok
 returns-else-first-clause-ok c = λ below. on_ok_weaker c.set_up_next_turn.result
-    (λ is. ap (λ (fs : List Frame). record (state_of c.args.self.now) { blocks = fs })
+    (λ is. ap (λ (fs : List Frame). record (state_of c.args.rc.now) { blocks = fs })
     (frames-turned (turn_frame (path_view c.args.path) (binding_of (option_map (λ b. binding_view b.now) c.args.binding))
-    (turn_view c.args.turn)) c.args.self.now.blocks.all.items (frame_of c.in-Some.block.now) c.set_up_next_turn.new.block
+    (turn_view c.args.turn)) c.args.rc.now.blocks.all.items (frame_of c.in-Some.block.now) c.set_up_next_turn.new.block
     c.in-Some.ensures.value is))
-    (c.set_up_next_turn.ensures (below-front (path_view c.args.path) (frames_of c.args.self.now.blocks.all.items)
+    (c.set_up_next_turn.ensures (below-front (path_view c.args.path) (frames_of c.args.rc.now.blocks.all.items)
     (frame_of c.in-Some.block.now) c.in-Some.ensures.value (below c.if-first.false)))
 
 pub returns-else-first-clause-outer : goal.returns-else-first-clause-outer
 returns-else-first-clause-outer c = record {
   root = refl;
-  blocks = outer-turned c.args.self.now.blocks.all.items c.set_up_next_turn.new.block;
+  blocks = outer-turned c.args.rc.now.blocks.all.items c.set_up_next_turn.new.block;
   recursive = refl;
   escapes = refl;
   failed = refl;
