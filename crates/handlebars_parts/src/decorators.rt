@@ -1,16 +1,16 @@
 //! Decorators of a caller's own.
 
-ghost use Rattle.std.specs.Prelude.{◌≡◌, ◌∷◌, [], IfOk, map, string_bytes};
+ghost use Rattle.std.specs.Prelude.{◌≡◌, ◌∷◌, []};
 ghost use Rattle.std.proofs.Common.{sym, ◌∙◌};
-ghost use Rattle.serde_json.specs.View.{view};
 ghost use Rattle.handlebars_base.specs.Answers.{gives};
-ghost use Rattle.handlebars_helpers.specs.Decoration.{binds, sets_data, sets_partial, unbinds};
-ghost use Rattle.handlebars_helpers.specs.DecoratorsView.{tag_view};
+ghost use Rattle.handlebars_helpers.specs.Decoration.{sets_data};
 ghost use Rattle.handlebars_scope.specs.Contexts.{data_of};
-ghost use Rattle.handlebars_parts.specs.Parts.{first_values};
 
-use handlebars::{Context, Decorator, DecoratorDef, DecoratorResult, DecoratorStep, JsonValue};
-use std::alloc::{AllocError, Global};
+use handlebars_helpers::decorators::def::DecoratorDef;
+use handlebars_helpers::decorators::view::Decorator;
+use handlebars_helpers::decorators::{DecoratorResult, DecoratorStep};
+use handlebars_scope::context::Context;
+use std::alloc::Global;
 
 /// Sets data in the place of what was given.
 #[derive(Drop)]

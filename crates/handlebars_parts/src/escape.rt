@@ -4,7 +4,8 @@ ghost use Rattle.std.specs.Prelude.{◌≡◌, ◌++◌};
 ghost use Rattle.std.proofs.Common.{sym, ◌∙◌};
 ghost use Rattle.handlebars_base.specs.Answers.{gives};
 
-use handlebars::{EscapeFn, RenderError};
+use handlebars_base::error::RenderError;
+use handlebars_helpers::escape::def::EscapeFn;
 use std::alloc::Global;
 
 /// Writes each text twice.

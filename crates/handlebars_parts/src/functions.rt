@@ -11,7 +11,11 @@ ghost use Rattle.handlebars_helpers.specs.View.{helper_view};
 ghost use Rattle.handlebars_parts.specs.Parts.{shown_at};
 
 use crate::helpers::push_shown;
-use handlebars::{DecoratorStep, FnDeeds, FnSteps, Helper, HelperStep};
+use handlebars_helpers::decorators::DecoratorStep;
+use handlebars_helpers::decorators::function::FnDeeds;
+use handlebars_helpers::own::HelperStep;
+use handlebars_helpers::own::function::FnSteps;
+use handlebars_helpers::view::Helper;
 use std::alloc::Global;
 
 /// Writes a text, and its parameter.

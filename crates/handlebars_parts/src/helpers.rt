@@ -11,10 +11,13 @@ ghost use Rattle.handlebars_scope.specs.ScopeView.{frame_of};
 ghost use Rattle.handlebars_scope.specs.Scopes.{empty_frame};
 ghost use Rattle.handlebars_parts.specs.Parts.{distance, shown_at};
 
-use handlebars::{
-    BlockContext, Context, Helper, HelperDef, HelperResult, HelperStep, HelperValue, JsonValue,
-    RenderError,
-};
+use handlebars_base::error::RenderError;
+use handlebars_helpers::own::def::HelperDef;
+use handlebars_helpers::own::{HelperResult, HelperStep, HelperValue};
+use handlebars_helpers::view::Helper;
+use handlebars_scope::block::BlockContext;
+use handlebars_scope::context::Context;
+use serde_json::Value as JsonValue;
 use std::alloc::{AllocError, Global};
 
 /// Renders its body twice.

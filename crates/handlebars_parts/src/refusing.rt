@@ -6,10 +6,15 @@ ghost use Rattle.handlebars_base.specs.Answers.{refuses_for};
 ghost use Rattle.handlebars_base.specs.Reasons.{io_error};
 ghost use Rattle.handlebars_base.specs.RenderRefusals.{plain_refusal, refusal_of};
 
-use handlebars::{
-    Context, Decorator, DecoratorDef, DecoratorResult, EscapeFn, Helper, HelperDef, HelperResult,
-    HelperValue, RenderError,
-};
+use handlebars_base::error::RenderError;
+use handlebars_helpers::decorators::DecoratorResult;
+use handlebars_helpers::decorators::def::DecoratorDef;
+use handlebars_helpers::decorators::view::Decorator;
+use handlebars_helpers::escape::def::EscapeFn;
+use handlebars_helpers::own::def::HelperDef;
+use handlebars_helpers::own::{HelperResult, HelperValue};
+use handlebars_helpers::view::Helper;
+use handlebars_scope::context::Context;
 use std::io;
 use std::io::ErrorKind;
 

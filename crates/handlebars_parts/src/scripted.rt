@@ -14,10 +14,16 @@ ghost use Rattle.handlebars_parts.specs.Parts.{first_values};
 ghost use Rattle.handlebars_parts.specs.Scripted.{deed_said, step_said, steps_said};
 
 use crate::helpers::shown;
-use handlebars::{
-    BlockContext, Context, Decorator, DecoratorDef, DecoratorResult, DecoratorStep, Helper,
-    HelperDef, HelperResult, HelperStep, HelperValue, JsonValue, RenderError,
-};
+use handlebars_base::error::RenderError;
+use handlebars_helpers::decorators::def::DecoratorDef;
+use handlebars_helpers::decorators::view::Decorator;
+use handlebars_helpers::decorators::{DecoratorResult, DecoratorStep};
+use handlebars_helpers::own::def::HelperDef;
+use handlebars_helpers::own::{HelperResult, HelperStep, HelperValue};
+use handlebars_helpers::view::Helper;
+use handlebars_scope::block::BlockContext;
+use handlebars_scope::context::Context;
+use serde_json::Value as JsonValue;
 use std::alloc::{AllocError, Global};
 
 /// A step of a helper.

@@ -11,9 +11,9 @@ use handlebars::{
 };
 use handlebars_parts::decorators::SettingData;
 use handlebars_parts::helpers::{Stepping, Twice};
-use handlebars_parts::pieces::{HeldPiece, HeldPieces};
 use log::sink::Discard;
 use std::alloc::{AllocError, Global};
+use test_pieces::{HeldPiece, HeldPieces};
 
 /// A way to render a row.
 pub struct Way {

@@ -2,22 +2,17 @@
 //! for its `.json` files, and `data` is run where no word is given. `docs/SCRIPTS.md` has the format.
 #![tactic(auto)]
 
-mod answer;
 mod caller;
-mod calls;
-mod fields;
-mod held;
-mod made;
 mod memory;
 mod names;
 mod own;
 mod pages;
+mod part;
 mod run;
 mod script;
 mod state;
 mod steps;
 mod strangers;
-mod writer;
 
 use run::run;
 use std::process::ExitCode;

@@ -1,10 +1,10 @@
 //! Parts of its own that a script registers.
 
-use crate::answer::Stop;
-use crate::held::had;
 use handlebars::{DecoratorDef, EscapeFn, HelperDef};
 use std::alloc::Global;
 use std::collections::VecDeque;
+use test_steps::answer::Stop;
+use test_steps::held::had;
 
 /// The parts that a script has still to register, in the order of its steps.
 pub struct Own {

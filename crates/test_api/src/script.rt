@@ -1,16 +1,17 @@
 //! A script: steps that are taken one after another, and what is wanted of each.
 
-use crate::answer::{Answer, Stop};
-use crate::calls::lacking;
-use crate::fields::{items, joined, text};
-use crate::held::{had, put};
-use crate::made::part::{Part, part_of};
 use crate::own::Own;
-use crate::state::{State, context_of};
+use crate::part::{Part, part_of};
+use crate::state::State;
 use crate::steps::answer;
 use handlebars::JsonValue;
-use std::alloc::{AllocError, Global};
+use std::alloc::AllocError;
 use std::rt::Files;
+use test_steps::answer::Answer;
+use test_steps::fields::items;
+use test_steps::held::put;
+use test_steps::made::data::context_of;
+use test_steps::wanted::{is_wanted, report_step};
 
 /// Whether a step of the script answers something else than is wanted, which is then reported. No step behind that is taken.
 pub fn differs<R: Files + AllocGlobal + Clone + Drop>(
@@ -101,55 +102,6 @@ fn take_differs<R: AllocGlobal>(
         false => {
             report_step(rt.alloc(), script, number, step, &answer, report)?;
             Ok(true)
-        }
-    }
-}
-
-// Whether an answer is the one that the step wants.
-fn is_wanted(alloc: Global, step: &JsonValue, answer: &Answer) -> Result<bool, AllocError> {
-    match answer {
-        Ok(answer) => is_answer(alloc, step, answer.as_str()),
-        Err(_) => Ok(false),
-    }
-}
-
-// The text of `gives`, or one that begins as `begins` says; where both are missing, that nothing is answered or refused.
-fn is_answer(alloc: Global, step: &JsonValue, answer: &str) -> Result<bool, AllocError> {
-    if step.get("gives").is_some() {
-        return Ok(joined(alloc, step, "gives")?.as_str() == answer);
-    }
-    if step.get("begins").is_some() {
-        return Ok(answer.starts_with(joined(alloc, step, "begins")?.as_str()));
-    }
-    Ok(answer == "()" || answer == "Ok(())")
-}
-
-fn report_step(
-    alloc: Global,
-    script: &JsonValue,
-    number: u64,
-    step: &JsonValue,
-    answer: &Answer,
-    report: &mut String,
-) -> Result<(), AllocError> {
-    let (what, call) = (text(script, "what"), text(step, "do"));
-    writeln!(report, "  {what:?}, step {number}: {call}")?;
-    let wanted = joined(alloc, step, "gives")?;
-    writeln!(report, "    wanted:   {wanted}")?;
-    match answer {
-        Ok(answer) => writeln!(report, "    answered: {answer}"),
-        Err(stop) => report_stop(step, *stop, report),
-    }
-}
-
-fn report_stop(step: &JsonValue, stop: Stop, report: &mut String) -> Result<(), AllocError> {
-    match (stop, lacking(step)) {
-        (Stop::Field, Some(field)) => {
-            writeln!(report, "    no answer: the field {field:?} is missing")
-        }
-        _ => {
-            let why = stop.text();
-            writeln!(report, "    no answer: {why}")
         }
     }
 }

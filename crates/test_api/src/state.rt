@@ -1,17 +1,12 @@
 //! What the steps of a script change.
 
-use crate::answer::Stop;
-use crate::fields::copied;
-use crate::held::taken;
 use crate::memory::Texts;
 use crate::own::Own;
-use handlebars::{
-    BlockContext, BlockParams, Context, JsonValue, LocalVars, Registry, RenderContext, RenderError,
-    StringOutput,
-};
-use handlebars_parts::pieces::HeldPieces;
+use handlebars::{Context, Registry, RenderContext, RenderError, StringOutput};
 use std::alloc::{AllocError, Global};
-use std::collections::{BTreeMap, VecDeque};
+use std::collections::BTreeMap;
+use test_pieces::HeldPieces;
+use test_steps::scopes::Scopes;
 
 /// All that a script works with.
 pub struct State {
@@ -73,48 +68,10 @@ impl State {
     }
 }
 
-/// The context of a field.
-pub fn context_of(it: &JsonValue, name: &str) -> Result<Context, Stop> {
-    match copied(it, name) {
-        Ok(given) => taken(Context::try_from(given)),
-        Err(AllocError) => Err(Stop::OutOfMemory),
-    }
-}
-
 /// What a template is rendered with.
 #[derive(Clone, Copy)]
 pub struct Given<'s> {
     pub alloc: Global,
     pub registry: &'s Registry,
     pub data: &'s Context,
-}
-
-/// Blocks of scope, and what they are made of.
-pub struct Scopes {
-    pub variables: LocalVars,
-    pub params: BlockParams,
-    pub block: BlockContext,
-    pub blocks: VecDeque<BlockContext>,
-}
-
-impl Drop for Scopes {
-    fn drop(self) {
-        let Scopes {
-            variables: _,
-            params: _,
-            block: _,
-            blocks: _,
-        } = self;
-    }
-}
-
-impl Scopes {
-    fn new(alloc: Global) -> Scopes {
-        Scopes {
-            variables: LocalVars::new(alloc),
-            params: BlockParams::new(alloc),
-            block: BlockContext::new(alloc),
-            blocks: VecDeque::new(alloc),
-        }
-    }
 }

@@ -1,9 +1,7 @@
 //! The steps of scripts, by groups.
 
 mod blocks;
-mod data;
 mod elements;
-mod error;
 mod file;
 mod functions;
 mod line;
@@ -12,20 +10,17 @@ mod output;
 mod parts;
 mod pieces;
 mod rc;
-mod reason;
 mod registry;
 mod render;
-mod scope;
-mod tree;
-mod value;
 
-use crate::answer::{Answer, Stop};
-use crate::calls::lacking;
-use crate::fields::text;
 use crate::state::{Given, State};
 use handlebars::JsonValue;
 use std::alloc::Global;
 use std::rt::Files;
+use test_steps::answer::{Answer, Stop};
+use test_steps::calls::lacking;
+use test_steps::fields::text;
+use test_steps::{data, error, reason, scope, tree, value};
 
 /// What the call of a step answers: the field `do` has its group and its name.
 pub fn answer<R: Files + AllocGlobal + Clone + Drop>(

@@ -1,14 +1,12 @@
 //! Blocks of scope of the render context, and in a list.
 
-use crate::answer::{Answer, Stop, done, done_if, refused, shown};
-use crate::fields::{copied, flag, text};
-use crate::held::{had, taken};
-use crate::state::Scopes;
-use handlebars::{
-    BlockContext, Context, JsonValue, Path, PathSeg, RenderContext, RenderError, ScopedJson,
-};
+use handlebars::{BlockContext, Context, JsonValue, Path, RenderContext};
 use std::alloc::{AllocError, Global};
 use std::collections::VecDeque;
+use test_steps::answer::{Answer, Stop, done, shown};
+use test_steps::fields::{copied, flag, text};
+use test_steps::held::taken;
+use test_steps::scopes::{Scopes, navigate, push_front, take_block};
 
 /// What a call answers.
 pub fn answer(
@@ -44,11 +42,6 @@ fn of_context(alloc: Global, rc: &mut RenderContext, call: &str, step: &JsonValu
     }
 }
 
-// The block that was made, with a new one in its place.
-fn take_block(alloc: Global, block: &mut BlockContext) -> BlockContext {
-    std::mem::replace(block, BlockContext::new(alloc))
-}
-
 // The path of the nearest block, if there is one.
 fn base(alloc: Global, block: Option<&BlockContext>) -> Answer {
     match block {
@@ -76,43 +69,4 @@ fn replace(alloc: Global, rc: &mut RenderContext, blocks: &mut VecDeque<BlockCon
     let list = std::mem::replace(blocks, VecDeque::new(alloc));
     *blocks = rc.replace_blocks(list);
     shown(alloc, blocks.len())
-}
-
-fn push_front(alloc: Global, scopes: &mut Scopes) -> Answer {
-    let block = take_block(alloc, &mut scopes.block);
-    done_if(alloc, had(scopes.blocks.push_front(block)))
-}
-
-// The value that a path leads to in the data and the blocks of the list, and its full path.
-fn navigate(
-    alloc: Global,
-    data: &Context,
-    blocks: &VecDeque<BlockContext>,
-    path: Result<Path, Stop>,
-    recursive: bool,
-) -> Answer {
-    match path {
-        Ok(Path::Relative((segments, _))) => {
-            along(alloc, data, blocks, segments.as_slice(), recursive)
-        }
-        Ok(_) => Err(Stop::Field),
-        Err(stop) => Err(stop),
-    }
-}
-
-fn along(
-    alloc: Global,
-    data: &Context,
-    blocks: &VecDeque<BlockContext>,
-    segments: &[PathSeg],
-    recursive: bool,
-) -> Answer {
-    found(alloc, data.navigate(alloc, segments, blocks, recursive))
-}
-
-fn found(alloc: Global, answer: Result<ScopedJson<'_>, RenderError>) -> Answer {
-    match answer {
-        Ok(found) => shown(alloc, (found.as_json(), found.context_path())),
-        Err(error) => refused::<()>(alloc, Err(error)),
-    }
 }

@@ -1,14 +1,14 @@
 //! Elements alone: of a source, or by hand.
 
-use crate::answer::{Answer, Stop, shown};
-use crate::fields::{number, text};
-use crate::held::Held;
-use crate::made::tree::{compiled, tree_around};
 use crate::state::Given;
 use crate::steps::render::text_of;
 use handlebars::{Evaluable, JsonValue, RenderContext, Template, TemplateElement};
 use log::sink::Discard;
 use std::alloc::Global;
+use test_steps::answer::{Answer, Stop, shown};
+use test_steps::fields::{number, text};
+use test_steps::held::Held;
+use test_steps::made::tree::{compiled, tree_around};
 
 /// What a call answers.
 pub fn answer(given: Given<'_>, rc: &mut RenderContext, call: &str, step: &JsonValue) -> Answer {

@@ -1,8 +1,5 @@
 //! The proved callers that write to a file, and that render templates of files.
 
-use crate::answer::{Answer, Stop, done_if, shown};
-use crate::fields::{owned, text};
-use crate::held::had;
 use crate::memory::Texts;
 use crate::pages::{rendered_anew, rendered_as_registered, write_page};
 use handlebars::{Context, FileReader, JsonValue, Registry, TemplateReader};
@@ -10,6 +7,9 @@ use log::sink::Discard;
 use std::alloc::AllocError;
 use std::collections::BTreeMap;
 use std::rt::Files;
+use test_steps::answer::{Answer, Stop, shown, shown_if};
+use test_steps::fields::{owned, text};
+use test_steps::held::{had, let_go};
 
 /// What a call answers.
 pub fn answer<R: Files + AllocGlobal + Clone + Drop>(
@@ -26,7 +26,7 @@ pub fn answer<R: Files + AllocGlobal + Clone + Drop>(
         "read" => shown(alloc, FileReader::new(rt, alloc).read(path)),
         "put" => {
             let (path, text) = (owned(alloc, step, "path"), owned(alloc, step, "text"));
-            done_if(alloc, put(&mut files.texts, path, text))
+            shown_if(alloc, put(&mut files.texts, path, text))
         }
         "anew" => shown(
             alloc,
@@ -51,5 +51,3 @@ fn put(
         _ => Err(Stop::OutOfMemory),
     }
 }
-
-fn let_go<T: Drop>(_value: T) {}

@@ -10,9 +10,7 @@ ghost use Rattle.handlebars_helpers.specs.OwnView.{steps_of};
 ghost use Rattle.handlebars_helpers.specs.View.{helper_view};
 ghost use Rattle.handlebars_parts.specs.Parts.{shown_at};
 
-use crate::answer::{Answer, Stop, shown};
-use crate::fields::text;
-use crate::made::part::helper_at;
+use crate::part::helper_at;
 use handlebars::{
     Context, Decorator, DecoratorEntry, DecoratorFn, FnDecorator, FnDeeds, FnHelper, FnSteps,
     Helper, HelperEntry, HelperFn, JsonValue, NoFiles, Registry,
@@ -20,6 +18,8 @@ use handlebars::{
 use handlebars_parts::functions::{renamed, said};
 use log::sink::Discard;
 use std::alloc::{AllocError, Global};
+use test_steps::answer::{Answer, Stop, shown};
+use test_steps::fields::text;
 
 /// What a source renders to where `simple-helper` is the helper of the field `helper`, `another-simple-helper` and
 /// `closure-helper` are functions that write a text and their parameter, and `renamed` is one that makes `size` a name of `len`.

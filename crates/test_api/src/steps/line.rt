@@ -1,9 +1,9 @@
 //! The output, and what is known of the line that is written.
 
-use crate::answer::{Answer, Stop, done, shown};
-use crate::fields::{flag, text};
 use handlebars::{JsonValue, Output, RenderContext, StringOutput, indent_aware_write};
 use std::alloc::Global;
+use test_steps::answer::{Answer, Stop, done, shown};
+use test_steps::fields::{flag, text};
 
 /// What a call answers.
 pub fn answer(

@@ -1,9 +1,9 @@
 //! Whether markup is fixed, and each place that keeps it from being so.
 
-use crate::answer::{Answer, Stop, kept, said, shown};
-use crate::fields::text;
 use handlebars::{JsonValue, MarkupFault, NoFiles, Registry, RenderError};
 use std::alloc::{AllocError, Global};
+use test_steps::answer::{Answer, Stop, kept, said, shown};
+use test_steps::fields::text;
 
 /// What a call answers.
 pub fn answer(alloc: Global, registry: &Registry, call: &str, step: &JsonValue) -> Answer {

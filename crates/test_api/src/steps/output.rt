@@ -1,13 +1,13 @@
 //! Outputs to writers, alone.
 
-use crate::answer::{Answer, Stop, kept};
-use crate::fields::{items, number};
-use crate::held::{had, if_made, push};
-use crate::writer::Slow;
 use handlebars::{JsonValue, Output, StringWriter, WriteOutput};
 use std::alloc::{AllocError, Global};
 use std::io;
 use std::io::Write;
+use test_steps::answer::{Answer, Stop, kept};
+use test_steps::fields::{items, number};
+use test_steps::made::data::bytes_of;
+use test_steps::writer::Slow;
 
 /// What a call answers.
 pub fn answer(alloc: Global, call: &str, step: &JsonValue) -> Answer {
@@ -58,26 +58,5 @@ fn written(mut writer: StringWriter, bytes: &[u8]) -> Answer {
     match writer.write_all(bytes).is_ok() {
         true => Ok(writer.into_string()),
         false => Err(Stop::OutOfMemory),
-    }
-}
-
-/// The bytes of an array.
-pub fn bytes_of(alloc: Global, numbers: &[JsonValue]) -> Result<Vec<u8>, Stop> {
-    let mut bytes = Vec::new(alloc);
-    let made = push_bytes(&mut bytes, numbers);
-    if_made(bytes, made)
-}
-
-fn push_bytes(bytes: &mut Vec<u8>, numbers: &[JsonValue]) -> Result<(), Stop> {
-    for number in numbers {
-        push(bytes, byte_of(number))?;
-    }
-    Ok(())
-}
-
-fn byte_of(number: &JsonValue) -> Result<u8, Stop> {
-    match number.as_u64() {
-        Some(byte) if byte < 256 => Ok(byte as u8),
-        _ => Err(Stop::Field),
     }
 }

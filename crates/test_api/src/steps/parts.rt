@@ -1,11 +1,11 @@
 //! Calls that register helpers, decorators and escape functions, and take them away.
 
-use crate::answer::{Answer, Stop, done, shown};
-use crate::fields::text;
 use crate::own::Own;
 use handlebars::{BuiltIn, DecoratorEntry, EscapeKind, HelperEntry, JsonValue, Registry};
 use handlebars_rows::helpers::helper_named;
 use std::alloc::Global;
+use test_steps::answer::{Answer, Stop, done, shown};
+use test_steps::fields::text;
 
 /// What a call answers.
 pub fn answer(

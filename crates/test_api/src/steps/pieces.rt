@@ -1,13 +1,13 @@
 //! Calls that tell an output of each piece.
 
-use crate::answer::{Answer, Stop, done, kept, printed, shown};
-use crate::fields::{number_at, text};
 use crate::state::Given;
 use handlebars::{JsonValue, NoFiles, RenderError};
-use handlebars_parts::pieces::{HeldPiece, HeldPieces};
 use log::sink::Discard;
 use std::alloc::{AllocError, Global};
 use std::io::ErrorKind;
+use test_pieces::{HeldPiece, HeldPieces};
+use test_steps::answer::{Answer, Stop, done, kept, printed, shown};
+use test_steps::fields::{number_at, text};
 
 /// What a call answers.
 pub fn answer(given: Given<'_>, out: &mut HeldPieces, call: &str, step: &JsonValue) -> Answer {

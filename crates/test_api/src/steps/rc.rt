@@ -1,11 +1,11 @@
 //! The state of the render context.
 
-use crate::answer::{Answer, Stop, done, refused, shown};
-use crate::fields::{flag, items, owned, text, text_at};
-use crate::held::{had, if_made, push, put};
-use crate::state::context_of;
 use handlebars::{Context, JsonValue, RenderContext, RenderError, ScopedJson};
 use std::alloc::{AllocError, Global};
+use test_steps::answer::{Answer, Stop, done, refused, shown};
+use test_steps::fields::{flag, items, owned, text, text_at};
+use test_steps::held::{had, put};
+use test_steps::made::data::{context_of, copies};
 
 /// What a call answers.
 pub fn answer(
@@ -92,19 +92,6 @@ fn bind(
         Ok(constants) => shown(alloc, rc.register_local_helper(name, registered, constants)),
         Err(stop) => Err(stop),
     }
-}
-
-fn copies(alloc: Global, values: &[JsonValue]) -> Result<Vec<JsonValue>, Stop> {
-    let mut all = Vec::new(alloc);
-    let made = push_copies(&mut all, values);
-    if_made(all, made)
-}
-
-fn push_copies(all: &mut Vec<JsonValue>, values: &[JsonValue]) -> Result<(), Stop> {
-    for value in values {
-        push(all, had(value.clone()))?;
-    }
-    Ok(())
 }
 
 // What the local helper of a name is registered under, and how many constants it has.

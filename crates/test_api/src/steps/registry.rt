@@ -1,11 +1,11 @@
 //! Calls of a registry, but for those that register parts.
 
-use crate::answer::{Answer, Stop, done, shown};
-use crate::fields::{flag, number, text};
-use crate::held::Held;
-use crate::made::tree::tree_of;
 use handlebars::{JsonValue, Registry, Template};
 use std::alloc::Global;
+use test_steps::answer::{Answer, Stop, done, shown};
+use test_steps::fields::{flag, number, text};
+use test_steps::held::Held;
+use test_steps::made::tree::tree_of;
 
 /// What a call answers.
 pub fn answer(alloc: Global, registry: &mut Registry, call: &str, step: &JsonValue) -> Answer {

@@ -1,25 +1,24 @@
 //! Calls that render.
 
-use crate::answer::{Answer, Stop, done, printed, said, shown};
 use crate::caller::rendered_again;
-use crate::fields::{text, text_at};
-use crate::held::Held;
-use crate::made::parameter::parameter_at;
-use crate::made::tree::{compiled, tree_of};
-use crate::made::view::decorator_of;
-use crate::state::{Given, context_of};
+use crate::state::Given;
 use crate::steps::functions;
 use crate::strangers::rendered_alike;
 use handlebars::{
-    Context, Decorator, Expand, JsonValue, NoFiles, Parameter, PathAndJson, Registry,
-    RenderContext, RenderError, RenderErrorReason, Renderable, StringOutput, Template,
-    expand_partial,
+    Context, Decorator, Expand, JsonValue, NoFiles, Parameter, Registry, RenderContext,
+    RenderError, Renderable, StringOutput, Template, expand_partial,
 };
 use log::sink::Discard;
 use std::alloc::{AllocError, Global};
-use std::fmt;
 use std::fmt::Display;
-use std::io::ErrorKind;
+use test_steps::answer::{Answer, Stop, done, error_in, name_in, printed, said, shown};
+use test_steps::fields::{text, text_at};
+use test_steps::held::Held;
+use test_steps::made::data::context_of;
+use test_steps::made::parameter::parameter_at;
+use test_steps::made::tree::{compiled, tree_of};
+use test_steps::made::view::decorator_of;
+use test_steps::value::expanded;
 
 /// What a call answers.
 pub fn answer(
@@ -69,39 +68,6 @@ fn of_source(given: Given<'_>, source: &str) -> Result<String, RenderError> {
     given
         .registry
         .render_template_with_context(source, given.data, &Discard, &mut NoFiles)
-}
-
-// The name of the template in the error.
-fn name_in(alloc: Global, answer: Result<String, RenderError>) -> Answer {
-    match answer {
-        Ok(_) => done(alloc),
-        Err(error) => shown(alloc, &error.template_name),
-    }
-}
-
-// The error as it is printed, behind the kind of its cause, if that is an error of the system's.
-fn error_in(alloc: Global, answer: Result<String, RenderError>) -> Answer {
-    match answer {
-        Ok(_) => done(alloc),
-        Err(error) => printed(alloc, BehindKind(&error)),
-    }
-}
-
-#[derive(Clone, Copy)]
-struct BehindKind<'e>(&'e RenderError);
-
-impl Display for BehindKind<'_> {
-    fn fmt<W: fmt::Write>(&self, f: &mut fmt::Formatter<W>) -> fmt::Result {
-        let kind = kind_of(self.0);
-        write!(f, "{kind:?}: {}", self.0)
-    }
-}
-
-fn kind_of(error: &RenderError) -> Option<ErrorKind> {
-    match error.reason() {
-        RenderErrorReason::IOError(cause) => Some(cause.kind()),
-        _ => None,
-    }
 }
 
 // The texts of a source over the data and over other ones, if its markup is fixed.
@@ -243,23 +209,6 @@ fn expand(given: Given<'_>, rc: &mut RenderContext, parameter: Result<Parameter,
         Ok(parameter) => expanded(alloc, parameter.expand(alloc, registry, data, rc, &Discard)),
         Err(stop) => Err(stop),
     }
-}
-
-// Its path as written and in the data, its value, the constant, and whether it is missing.
-fn expanded(alloc: Global, answer: Result<PathAndJson<'_>, RenderError>) -> Answer {
-    match answer {
-        Ok(given) => told(alloc, &given),
-        Err(error) => said(alloc, &error),
-    }
-}
-
-fn told(alloc: Global, given: &PathAndJson<'_>) -> Answer {
-    let places = (given.relative_path(), given.context_path());
-    let constant = given.try_get_constant_value();
-    shown(
-        alloc,
-        (places, given.value(), constant, given.is_value_missing()),
-    )
 }
 
 // The name that a parameter comes to, or what its error says.

@@ -1,6 +1,10 @@
-//! An output of a caller's own that holds each piece that it was told of, with all that was told of it.
+//! An output of a caller's own that holds each piece that it was told of, with all that was told of it, for tests.
+#![tactic(auto)]
 
-use handlebars::{FullPath, Heard, Origin, PieceKind, PieceOutput, Standing, TemplateMapping};
+use handlebars_expand::heard::Heard;
+use handlebars_expand::pieces::{Origin, PieceKind, PieceOutput, Standing};
+use handlebars_scope::context::full_path::FullPath;
+use handlebars_template::template::TemplateMapping;
 use std::alloc::{AllocError, Global};
 use std::io::ErrorKind;
 use std::{fmt, io};

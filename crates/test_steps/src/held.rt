@@ -56,6 +56,9 @@ pub fn put<T: Drop>(place: &mut T, made: Result<T, Stop>) -> Result<(), Stop> {
     }
 }
 
+/// Lets a value go.
+pub fn let_go<T: Drop>(_value: T) {}
+
 /// What was made, if all else was made too.
 pub fn if_made<T: Drop>(value: T, all: Result<(), Stop>) -> Result<T, Stop> {
     match all {

@@ -2,9 +2,13 @@
 
 use crate::answer::Stop;
 use crate::fields::{items, text, text_at};
-use crate::held::{had, push};
+use crate::held::{had, let_go, push};
 use crate::made::scoped::given_of;
-use handlebars::{Decorator, Helper, JsonValue, PathAndJson, Template};
+use handlebars_base::json::value::PathAndJson;
+use handlebars_helpers::decorators::view::Decorator;
+use handlebars_helpers::view::Helper;
+use handlebars_template::template::Template;
+use serde_json::Value as JsonValue;
 use std::alloc::Global;
 use std::borrow::CowStr;
 use std::collections::BTreeMap;
@@ -72,5 +76,3 @@ fn put_pair<'s>(
         Err(stop) => Err(stop),
     }
 }
-
-fn let_go<T: Drop>(_value: T) {}

@@ -1,19 +1,21 @@
 //! Variables, names that are bound, and a block of scope, made by hand.
 
-use crate::answer::{Answer, Stop, done, done_if, shown};
+use crate::answer::{Answer, Stop, done, shown, shown_if};
 use crate::fields::{copied, items, owned, owned_all, text};
 use crate::held::{had, push, put, taken};
-use crate::state::Scopes;
-use handlebars::{
-    BlockContext, BlockParamHolder, BlockParams, JsonValue, LocalVars, Template, TemplateError,
-};
+use crate::scopes::Scopes;
+use handlebars_base::error::TemplateError;
+use handlebars_scope::block::{BlockContext, BlockParamHolder, BlockParams};
+use handlebars_scope::local_vars::LocalVars;
+use handlebars_template::template::Template;
+use serde_json::Value as JsonValue;
 use std::alloc::{AllocError, Global};
 use std::rc::Rc;
 
 /// What a call answers.
 pub fn answer(alloc: Global, scopes: &mut Scopes, call: &str, step: &JsonValue) -> Answer {
     match call {
-        "copy" => done_if(alloc, copy(&mut scopes.variables)),
+        "copy" => shown_if(alloc, copy(&mut scopes.variables)),
         "put" => put_in(alloc, &mut scopes.variables, step),
         "get" => shown(alloc, scopes.variables.get(text(step, "name"))),
         "take_params" => take_params(alloc, scopes),
@@ -105,7 +107,7 @@ fn base(alloc: Global, block: &BlockContext) -> Answer {
 
 // The path of the block goes on by a name.
 fn follow(alloc: Global, block: &mut BlockContext, step: &JsonValue) -> Answer {
-    done_if(
+    shown_if(
         alloc,
         push(block.base_path_mut(), had(owned(alloc, step, "name"))),
     )

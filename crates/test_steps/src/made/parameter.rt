@@ -2,9 +2,10 @@
 
 use crate::answer::Stop;
 use crate::fields::{flag, items, owned, text};
-use crate::held::{had, if_made, push, put, taken};
-use handlebars::template::{BlockParam, ExpressionSpec, Parameter};
-use handlebars::{JsonValue, Path};
+use crate::held::{had, if_made, let_go, push, put, taken};
+use handlebars_base::json::path::Path;
+use handlebars_template::template::{BlockParam, ExpressionSpec, Parameter};
+use serde_json::Value as JsonValue;
 use std::alloc::{AllocError, Global};
 use std::collections::BTreeMap;
 
@@ -93,8 +94,6 @@ fn put_value(
         Err(stop) => Err(stop),
     }
 }
-
-fn let_go<T: Drop>(_value: T) {}
 
 /// What a tag says: its `name`, `params`, `hash` and names to `bind`.
 pub fn spec_of(alloc: Global, it: &JsonValue) -> Result<ExpressionSpec, Stop> {

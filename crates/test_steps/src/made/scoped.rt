@@ -2,7 +2,8 @@
 
 use crate::answer::Stop;
 use crate::fields::{copied, items, owned, owned_all};
-use handlebars::{JsonValue, PathAndJson, ScopedJson};
+use handlebars_base::json::value::{PathAndJson, ScopedJson};
+use serde_json::Value as JsonValue;
 use std::alloc::{AllocError, Global};
 
 /// A `constant` of the template, a value that is `derived`, one that is `found` in the data `at` a path, or none.

@@ -5,10 +5,11 @@ use crate::fields::{flag, items, text};
 use crate::held::{Held, had};
 use crate::made::parameter::{pairs_of, parameter_at, parameters_of, spec_of};
 use crate::made::tree::{compiled, element_at};
-use handlebars::{
-    DecoratorTemplate, ExpressionSpec, HelperTemplate, JsonValue, Parameter, Subexpression,
-    Template, TemplateElement,
+use handlebars_template::template::{
+    DecoratorTemplate, ExpressionSpec, HelperTemplate, Parameter, Subexpression, Template,
+    TemplateElement,
 };
+use serde_json::Value as JsonValue;
 use std::alloc::{AllocError, Global};
 use std::collections::BTreeMap;
 

@@ -1,7 +1,7 @@
 //! The calls of scripts, and the fields that they need.
 
 use crate::fields::text;
-use handlebars::JsonValue;
+use serde_json::Value as JsonValue;
 
 // Each call that needs fields, with these.
 const NEEDS: &str =

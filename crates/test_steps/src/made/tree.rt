@@ -4,10 +4,10 @@ use crate::answer::Stop;
 use crate::fields::{flag, items, owned, text, text_at};
 use crate::held::{Held, had, if_made, push, put, taken};
 use crate::made::parameter::spec_of;
-use handlebars::JsonValue;
-use handlebars::template::{
+use handlebars_template::template::{
     DecoratorTemplate, ExpressionSpec, HelperTemplate, Template, TemplateElement, TemplateMapping,
 };
+use serde_json::Value as JsonValue;
 use std::alloc::{AllocError, Global};
 
 /// The tree of a source.

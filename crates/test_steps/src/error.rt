@@ -2,8 +2,9 @@
 
 use crate::answer::{Answer, Stop, done, printed, said};
 use crate::fields::{joined, number, owned, text, text_at};
-use handlebars::{JsonValue, RenderError, TemplateError, TemplateErrorReason};
+use handlebars_base::error::{RenderError, TemplateError, TemplateErrorReason};
 use handlebars_base::output::output_fault;
+use serde_json::Value as JsonValue;
 use std::alloc::{AllocError, Global};
 use std::io;
 

@@ -1,12 +1,14 @@
 //! Data, and the values that are converted to it.
 
-use crate::answer::{Answer, Stop, done, done_if, kept, refused, shown};
+use crate::answer::{Answer, Stop, done, kept, refused, shown, shown_if};
 use crate::fields::{copied, items, number, number_at, text};
 use crate::held::{had, if_made, put};
-use crate::state::context_of;
-use crate::steps::output::bytes_of;
-use handlebars::{Context, JsonValue, RenderError, RenderErrorReason, as_string, to_json};
+use crate::made::data::{bytes_of, context_of};
+use handlebars_base::error::{RenderError, RenderErrorReason};
+use handlebars_base::json::value::{as_string, to_json};
+use handlebars_scope::context::Context;
 use serde::Serialize;
+use serde_json::Value as JsonValue;
 use std::alloc::{AllocError, Global};
 
 /// What a call answers.
@@ -19,13 +21,13 @@ pub fn answer(
 ) -> Answer {
     match call {
         "is" => shown(alloc, data.data()),
-        "set" => done_if(alloc, put(data, context_of(step, "to"))),
+        "set" => shown_if(alloc, put(data, context_of(step, "to"))),
         "null" => {
             *data = Context::null();
             done(alloc)
         }
         "wrap" => wrap(alloc, data, step),
-        "copy" => done_if(alloc, put(copy, had(data.clone(alloc)))),
+        "copy" => shown_if(alloc, put(copy, had(data.clone(alloc)))),
         "copy_is" => shown(alloc, copy.data()),
         "set_copy" => set_copy(alloc, copy, copied(step, "to")),
         _ => of_value(alloc, call, step),

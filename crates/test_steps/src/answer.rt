@@ -1,8 +1,10 @@
 //! What a step answers, as a text.
 
-use handlebars::RenderError;
+use handlebars_base::error::{RenderError, RenderErrorReason};
 use std::alloc::{AllocError, AllocFailed, Global};
+use std::fmt;
 use std::fmt::{Debug, Display};
+use std::io::ErrorKind;
 
 /// Why a step has no answer.
 #[derive(Clone, Copy)]
@@ -68,11 +70,6 @@ pub fn done(alloc: Global) -> Answer {
     shown(alloc, ())
 }
 
-/// The same, if nothing stopped it.
-pub fn done_if(alloc: Global, made: Result<(), Stop>) -> Answer {
-    shown_if(alloc, made)
-}
-
 /// What an error says: its reason, its line, its column and its name, by their constructors.
 pub fn said(alloc: Global, error: &RenderError) -> Answer {
     let place = (error.line_no, error.column_no);
@@ -87,5 +84,38 @@ pub fn refused<T: Drop>(alloc: Global, answer: Result<T, RenderError>) -> Answer
     match answer {
         Ok(_) => printed(alloc, "no error"),
         Err(error) => said(alloc, &error),
+    }
+}
+
+/// The name of the template in the error.
+pub fn name_in(alloc: Global, answer: Result<String, RenderError>) -> Answer {
+    match answer {
+        Ok(_) => done(alloc),
+        Err(error) => shown(alloc, &error.template_name),
+    }
+}
+
+/// The error as it is printed, behind the kind of its cause, if that is an error of the system's.
+pub fn error_in(alloc: Global, answer: Result<String, RenderError>) -> Answer {
+    match answer {
+        Ok(_) => done(alloc),
+        Err(error) => printed(alloc, BehindKind(&error)),
+    }
+}
+
+#[derive(Clone, Copy)]
+struct BehindKind<'e>(&'e RenderError);
+
+impl Display for BehindKind<'_> {
+    fn fmt<W: fmt::Write>(&self, f: &mut fmt::Formatter<W>) -> fmt::Result {
+        let kind = kind_of(self.0);
+        write!(f, "{kind:?}: {}", self.0)
+    }
+}
+
+fn kind_of(error: &RenderError) -> Option<ErrorKind> {
+    match error.reason() {
+        RenderErrorReason::IOError(cause) => Some(cause.kind()),
+        _ => None,
     }
 }

@@ -1,11 +1,15 @@
 //! Values with where they came from.
 
-use crate::answer::{Answer, Stop, kept, shown};
+use crate::answer::{Answer, Stop, kept, said, shown};
 use crate::fields::flag;
 use crate::held::had;
 use crate::made::scoped::{given_of, scoped_of};
 use crate::made::view::helper_of;
-use handlebars::{Helper, JsonRender, JsonValue, PathAndJson, ScopedJson, log_record};
+use handlebars_base::error::RenderError;
+use handlebars_base::json::value::{JsonRender, PathAndJson, ScopedJson};
+use handlebars_helpers::log_line::log_record;
+use handlebars_helpers::view::Helper;
+use serde_json::Value as JsonValue;
 use std::alloc::Global;
 use std::fmt::Debug;
 
@@ -101,4 +105,22 @@ fn either<T: Debug + Drop, E: Debug + Drop>(alloc: Global, answer: Result<T, E>)
         Ok(value) => shown(alloc, value),
         Err(error) => shown(alloc, error),
     }
+}
+
+/// What a parameter comes to: its path as written and in the data, its value, the constant, and whether it is missing; or
+/// what its error says.
+pub fn expanded(alloc: Global, answer: Result<PathAndJson<'_>, RenderError>) -> Answer {
+    match answer {
+        Ok(given) => told_of_parameter(alloc, &given),
+        Err(error) => said(alloc, &error),
+    }
+}
+
+fn told_of_parameter(alloc: Global, given: &PathAndJson<'_>) -> Answer {
+    let places = (given.relative_path(), given.context_path());
+    let constant = given.try_get_constant_value();
+    shown(
+        alloc,
+        (places, given.value(), constant, given.is_value_missing()),
+    )
 }

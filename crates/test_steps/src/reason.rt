@@ -3,10 +3,11 @@
 use crate::answer::{Answer, Stop, printed, shown};
 use crate::fields::{owned, text};
 use crate::held::had;
-use handlebars::{
-    JsonValue, RenderErrorReason as Reason, TemplateError, TemplateErrorReason as Broken,
+use handlebars_base::error::{
+    RenderErrorReason as Reason, TemplateError, TemplateErrorReason as Broken,
 };
 use handlebars_base::output::output_fault;
+use serde_json::Value as JsonValue;
 use std::alloc::{AllocError, Global};
 use std::fmt::Display;
 use std::io;

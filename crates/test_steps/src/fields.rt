@@ -1,6 +1,6 @@
 //! The fields of a step, and of what it describes. One that is missing, or of another kind, reads as nothing.
 
-use handlebars::JsonValue;
+use serde_json::Value as JsonValue;
 use std::alloc::{AllocError, Global};
 
 /// A field that is a text, if it is one.

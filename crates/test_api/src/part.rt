@@ -1,9 +1,5 @@
 //! Helpers, decorators and escape functions of a script's own.
 
-use crate::answer::Stop;
-use crate::fields::{items, number, owned, text};
-use crate::held::{had, if_made, push, put};
-use crate::state::context_of;
 use handlebars::{HelperValue, JsonValue};
 use handlebars_parts::escape::Doubled;
 use handlebars_parts::helpers::Distance;
@@ -11,6 +7,10 @@ use handlebars_parts::refusing::Refusing;
 use handlebars_parts::scripted::{ScriptedAction, ScriptedDecorator, ScriptedHelper, ScriptedStep};
 use std::alloc::{AllocError, Global};
 use std::io::ErrorKind;
+use test_steps::answer::Stop;
+use test_steps::fields::{items, number, owned, text};
+use test_steps::held::{had, if_made, push, put};
+use test_steps::made::data::context_of;
 
 /// A part that a script registers.
 pub enum Part {
