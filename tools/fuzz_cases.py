@@ -1,22 +1,22 @@
 """What tools/fuzz draws: templates by the grammar of docs/LANGUAGE.md, some of them damaged, data, and how they are rendered.
 
-A template is a list of pieces, each a text or a whole tag. Names of data and of partials are few, so that things meet.
-Blocks of inclusions go to partials that stand behind in the list of names, and inclusions without a block to any: so a text
-that is kept for `@partial-block` doesn't double with each turn of an endless recursion."""
+A template is a list of pieces, each a text or a whole tag. There are few names of data and of partials, so that they are used.
+Partial blocks call partials that are later in the list of names, and partial calls without a block call any: so a text that is
+captured for `@partial-block` doesn't double in each iteration of an endless recursion."""
 import dataclasses
 
 
 @dataclasses.dataclass
 class Case:
-    """A template with its partials and data, and the fields of rows that say how it is rendered."""
+    """A template with its partials and data, and the fields of test cases that say how it is rendered."""
 
     main: list
     partials: dict
     data: object
     fields: dict
-    # Whether the texts have no marks, and no tag writes a value as it is.
+    # Whether the texts have no marks, and no tag writes a raw value.
     markless: bool
-    # What is drawn of the rows of the case begins here.
+    # The seed of what is drawn for the test cases.
     seed: int
 
 
@@ -55,7 +55,7 @@ def a_text(draw):
 
 
 def a_value(draw, key, depth):
-    """What stands under a key; mostly of one kind, so that paths lead somewhere."""
+    """The value of a key. Mostly of one kind, so that paths lead somewhere."""
     if draw.random() < 0.08:
         key = draw.choice(KEYS)
     if key in ("o", "e") and depth > 0:
@@ -81,7 +81,7 @@ def a_root(draw, names):
     return root
 
 
-# ---- what stands in tags
+# ---- the content of tags
 
 PATHS = ["t", "u", "t", "u", "this", ".", "o.t", "o.u", "o.o.t", "l.0", "l.[0]", "kids.0.t", "n", "b", "e", "[a<b]", "o/t"]
 PATHS += ["o.[a<b]", "../t", "../u", "../this", "../../t", "@root.t", "@root.o.u", "@root.l.0", "this.t", "./u", "[t]"]
@@ -110,7 +110,7 @@ class Drawn:
 
     def __init__(self, draw, names, behind, markless, outside=False):
         self.draw, self.names, self.behind, self.markless, self.outside = draw, names, behind, markless, outside
-        # the names that blocks around bind, how many of these are turns, and whether an inclusion's block is around
+        # the names that the enclosing blocks bind, how many of these blocks iterate, and whether a partial block is around
         self.bound, self.turns, self.handed = [], 0, False
 
     def maybe(self, share):
@@ -173,7 +173,7 @@ class Drawn:
     def tag(self, mark, line):
         return ["{{" + self.gap() + mark + self.white() + line + self.gap() + "}}"]
 
-    # -- what has no body
+    # -- tags without a body
 
     def text(self):
         if self.maybe(0.015):
@@ -220,10 +220,10 @@ class Drawn:
         line = self.one(['inline "p"', "inline", "inline 5", "nope", "inline t"])
         return self.tag("*", line) if self.maybe(0.1) else self.comment()
 
-    # -- what has bodies
+    # -- blocks with bodies
 
     def block_line(self):
-        """The line of a block by a helper, and the names that it binds."""
+        """The expression of a block that calls a helper, and the names that it binds."""
         name = self.draw.choices(["if", "unless", "each", "with", "call"], [4, 2, 5, 4, 1])[0]
         if name == "call":
             line = self.call(1)
@@ -273,8 +273,8 @@ class Drawn:
             words.append(self.one(BASES if self.maybe(0.1) else ONES) if self.maybe(0.8) else self.parameter(1))
         pairs = self.one([0, 0, 0, 1, 2])
         words += [self.pair()] if pairs else []
-        # The second is a literal: with the value that it stands at in two pairs, a partial that includes itself would double
-        # that value at each level.
+        # The second one is a literal: if two hash arguments had the value of the scope, a partial that calls itself would
+        # double that value at each level.
         words += [self.key() + self.literal()] if pairs == 2 else []
         return "".join(self.space() + it for it in words)
 
@@ -291,7 +291,7 @@ class Drawn:
         return [before, *self.with_block(self.one(self.behind) if self.behind and self.maybe(0.9) else "nope", depth)]
 
     def hand_on(self, depth):
-        """A place for the block of the inclusion around; in an inclusion's block none is within a turn."""
+        """A call of `@partial-block`. In the block of a partial call, none is within an iteration."""
         if self.handed and self.turns:
             return self.text()
         if self.handed or self.maybe(0.3):
@@ -369,7 +369,7 @@ def hurt_text(draw, text):
 
 
 def hurt(draw, pieces):
-    """Damages pieces or characters, some times."""
+    """Damages pieces or characters, several times."""
     pieces = [it for it in pieces if it]
     for _ in range(draw.choice([1, 1, 2, 3])):
         at, to = (draw.randrange(len(pieces)) if pieces else 0 for _ in range(2))
@@ -433,11 +433,11 @@ def keeps_marks_out(case):
     return case.markless and not any(it in text for text in pieces for it in MARKS + "{}\\")
 
 
-# ---- what may stand for a case and is smaller
+# ---- smaller cases that may replace a case
 
 
 def cuts(things):
-    """What is left of a list or a text without a part: halves first, then quarters, and single things last."""
+    """What is left of a list or a text without a part: halves first, then quarters, and single elements last."""
     size = len(things)
     while size > 1:
         size = (size + 1) // 2
@@ -477,6 +477,6 @@ def smaller_cases(case):
         yield dataclasses.replace(case, data=None)
     for less in smaller_data(case.data):
         yield dataclasses.replace(case, data=less)
-    # by characters, where it doesn't matter which of them are of tags
+    # by characters, if it doesn't matter which of them belong to tags
     if not keeps_marks_out(case):
         yield from smaller_pieces(case, lambda pieces: ([it] for it in cuts("".join(pieces))))

@@ -1,12 +1,12 @@
-"""The laws by which tools/fuzz compares what the rows of a case answer."""
+"""The laws by which tools/fuzz compares the answers of the test cases of a case."""
 import fuzz_cases
 import fuzz_pieces
 from fuzz_rows import FIRST, Refusal, by_bytes, read_refusal, read_texts
 
-# ---- the laws: each yields the labels of the rows that break it, and what differs
+# ---- the laws: each yields the labels of the test cases that break it, and what differs
 
 ALL = ("text", "refusal", "printed", "logged")
-# What refuses data with a number that no context takes.
+# The error for data with a number that no context takes.
 NO_DATA = Refusal("Number outside the kept range", None, None, None)
 
 
@@ -22,7 +22,7 @@ def differing(one, other, parts=ALL):
 
 
 class Judged:
-    """A case with its answers, and what the laws say of them."""
+    """A case with its answers, and what the laws say about them."""
 
     def __init__(self, rows, answers):
         self.rows, self.case, self.answers = rows, rows.case, answers
@@ -35,12 +35,12 @@ class Judged:
         self.no_data = is_out(self.case.data)
 
     def pieces(self, label):
-        """What is told of the pieces of a row, if anything is."""
+        """The pieces of a test case, if any are emitted."""
         ways = self.answers[label]
         return ways["pieces"].pieces if "pieces" in ways else None
 
     def unlike(self, label, other, parts=ALL):
-        """What differs in two rows, in their pieces too where both are told."""
+        """What differs in two test cases, also in their pieces if both emit them."""
         what = differing(self.at[label], self.at[other], parts)
         one, two = self.pieces(label), self.pieces(other)
         if one is not None and two is not None and one != two:
@@ -54,7 +54,7 @@ class Judged:
         return self.first.refusal is not None and self.first.refusal.reason == f"Inclusions nest deeper than {self.rows.limit}"
 
     def ways(self):
-        """All ways of each row agree with its writer, or, of one that has none, there is one way alone."""
+        """All render calls of a test case agree with its writer. One that has no writer has a single render call."""
         for label, ways in self.answers.items():
             writer = ways.get("writer")
             for way, it in ways.items() if writer else ():
@@ -67,7 +67,7 @@ class Judged:
                     yield [label], f"{way} and writer: {what}"
 
     def alone(self):
-        """The first template that doesn't compile refuses all, and nothing is written."""
+        """If a template doesn't compile, the first such error is the error of the case, and nothing is written."""
         wanted = None
         if self.broken:
             wanted = self.faults[self.broken[0]]
@@ -85,7 +85,7 @@ class Judged:
         return fault._replace(template="Unnamed" if fault.template == self.rows.name else fault.template)
 
     def name(self):
-        """By name as by source, but for the name of the refusal."""
+        """The same by name as by source, except for the template name of the error."""
         wanted, named = self.first.refusal, self.at["name"]
         if self.no_data and self.main_fault and not self.broken:
             wanted = self.main_fault
@@ -138,7 +138,8 @@ class Judged:
             yield ["source", "larger"], f"no beginning: {self.pieces('source')} / {self.pieces('larger')}"
 
     def step_of(self, label, number):
-        """The refusal of a step that refuses a row, the paths that it asked for, and the names that there are then."""
+        """The error of a step that makes a test case fail, the paths that it asked for, and the names that are registered after
+        it."""
         answer, begin = self.at[label], f"step {number}: "
         reason, at, fault = answer.refusal.reason if answer.refusal else "", len(begin), None
         if not reason.startswith(begin) or answer.refusal[1:] != (None, None, None):
@@ -153,7 +154,7 @@ class Judged:
         return (fault, asked, names) if at == len(reason) else None
 
     def walked(self):
-        """The step of the folder: up to the first file that doesn't compile."""
+        """The expected result of the step of the folder: it reads files up to the first that doesn't compile."""
         asked, names = [], set()
         for path, name in self.rows.walk:
             asked.append(path)
@@ -237,7 +238,7 @@ class Judged:
     # ---- of pieces
 
     def told(self):
-        """The labels of the rows whose pieces are told, each with these; of those that are the same, the first one."""
+        """The labels of the test cases that emit pieces, each with its pieces. Of those with the same pieces, the first one."""
         rows = {}
         for label in self.answers:
             pieces = self.pieces(label)
@@ -254,7 +255,7 @@ class Judged:
                     yield [label], f"{texts} / {ways['pieces'].text!r}"
 
     def sources(self, piece):
-        """The sources of the template in which a piece's element may stand."""
+        """The sources of the template that the element of a piece may belong to."""
         if piece.template is None:
             return list(self.rows.all.values())
         source = self.rows.source if piece.template is FIRST else self.rows.partials.get(piece.template)
@@ -289,7 +290,7 @@ LAWS += ["joined", "places", "paths", "escaped"]
 
 
 def findings(rows, answers):
-    """The laws that the answers break, each with labels of rows and what differs."""
+    """The laws that the answers break, each with labels of test cases and what differs."""
     ended = [label for label, it in answers.items() if isinstance(it, str)]
     if ended:
         return [("ended", ended[:1], answers[ended[0]])]

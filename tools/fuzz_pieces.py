@@ -1,9 +1,9 @@
-"""What pieces are to be by the templates and the data of a case of tools/fuzz: docs/LANGUAGE.md in a few words."""
+"""The pieces that the templates and the data of a case of tools/fuzz must have: docs/LANGUAGE.md in a few words."""
 import functools
 import itertools
 import re
 
-# What is white, as Unicode has it.
+# Whitespace, as Unicode defines it.
 WHITE = "\t\n\v\f\r \x85\xa0\u1680\u2000\u2001\u2002\u2003\u2004\u2005\u2006\u2007\u2008\u2009\u200a\u2028\u2029\u202f\u205f\u3000"
 INDENTATION = "indentation"
 
@@ -15,7 +15,7 @@ def spot(piece):
 
 
 def runs(pieces):
-    """What is told without a break of one place, turn, kind and path: its first piece and all texts, without indentations."""
+    """Successive pieces of the same position, iteration, kind and path: the first piece and all texts, without indentations."""
     for _, group in itertools.groupby(pieces, spot):
         told = (it for it in group if it.kind != INDENTATION)
         for _, same in itertools.groupby(told, lambda it: (it.kind, it.path)):
@@ -24,7 +24,7 @@ def runs(pieces):
 
 
 def are_made_of(texts, are_one, most):
-    """Whether the texts, some joined, are those of one thing or another again and again; none has more characters than most."""
+    """Whether the texts, some of them joined, are each accepted by `are_one`. None has more characters than `most`."""
     ends = {0}
     for begin in range(len(texts)):
         joined = ""
@@ -38,7 +38,7 @@ def are_made_of(texts, are_one, most):
 
 
 def stray_indentations(pieces):
-    """Indentations that are more than blanks and tabs, or stand before nothing that may be indented of the same place."""
+    """Indentations that are more than blanks and tabs, or don't precede a piece of the same position that may be indented."""
     for piece, behind in itertools.zip_longest(pieces, pieces[1:]):
         if piece.kind == INDENTATION:
             stands = behind and spot(behind) == spot(piece) and behind.kind in ("text", "value", "raw")
@@ -46,12 +46,12 @@ def stray_indentations(pieces):
                 yield piece
 
 
-# ---- what stands in a source
+# ---- the content of a source
 
 
 @functools.lru_cache(maxsize=1024)
 def offset_of(source, place):
-    """How many characters stand before a line and a column, where the source has them."""
+    """How many characters precede a line and a column, if the source has them."""
     line, column = place
     lines = source.split("\n")
     if line > len(lines) or column > len(lines[line - 1]) + 1:
@@ -63,7 +63,7 @@ TAGS = {braces: re.compile(r"(\\*)" + re.escape(braces)) for braces in ("{{", "{
 
 
 def text_up_to(braces, source, at):
-    """The text that stands there up to a tag that begins with these braces, less the backslashes that are dropped."""
+    """The text there up to a tag that begins with these braces, without the backslashes that are dropped."""
     text = ""
     while found := TAGS[braces].search(source, at):
         count = len(found[1])
@@ -77,7 +77,7 @@ def text_up_to(braces, source, at):
 
 @functools.lru_cache(maxsize=1024)
 def texts_in(source, place):
-    """The text that stands at a place of a source, before it is trimmed, and the one of a raw block, where that may be."""
+    """The text at a position of a source, before it is trimmed, and the one of a raw block, if there may be one."""
     at = offset_of(source, place)
     if at is None:
         return []
@@ -86,7 +86,7 @@ def texts_in(source, place):
 
 
 def is_trimmed(text, whole):
-    """Whether it is the whole, less white in front and at the end."""
+    """Whether it is the whole without some whitespace at the start and at the end."""
     core = whole.strip(WHITE)
     if not core:
         return text in whole
@@ -96,9 +96,10 @@ def is_trimmed(text, whole):
 
 
 def stands_in(sources, first, texts):
-    """Whether the texts of a run that begins with this piece stand in one of the sources: those of a template, or a tag."""
+    """Whether the texts of a run that begins with this piece occur in one of the sources, as texts of a template or at a
+    tag."""
     if first.place is None:
-        # of a template every text has a place, and of tags only those of chained inverses have none
+        # every template text has a position, and every tag, except for those of chained inverses
         return first.kind != "text"
     if first.kind != "text":
         return any(it.startswith("{{", at) for it in sources for at in [offset_of(it, first.place)] if at is not None)
@@ -106,7 +107,7 @@ def stands_in(sources, first, texts):
     return are_made_of(texts, lambda text: any(is_trimmed(text, it) for it in wholes), max(map(len, wholes), default=0))
 
 
-# ---- what stands in data
+# ---- the content of data
 
 ENTITIES = {"<": "&lt;", ">": "&gt;", '"': "&quot;", "&": "&amp;", "'": "&#x27;", "`": "&#x60;", "=": "&#x3D;"}
 

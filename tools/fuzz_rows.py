@@ -1,4 +1,4 @@
-"""The rows of a case of tools/fuzz, and what the program answers of them, read from what it prints (docs/ROWS.md)."""
+"""The test cases of a case of tools/fuzz, and their answers, read from what the program prints (docs/TEST_CASES.md)."""
 import collections
 import functools
 import json
@@ -6,21 +6,22 @@ import random
 import re
 
 WANTED = "\u0001wanted\u0001"
-# Names that no inclusion says, all behind those of partials in byte order.
+# Names that no partial call has, all after those of partials in byte order.
 MAINS = ["\u2603main", "\u2603 a/b", '\u2603"<\n{{x}}', "\u2603.hbs"]
 OTHER = "\u2603other"
 OTHERS = ["", "x", "<b>\n", "{{> p}}", "{{#each .}}{{this}}{{/each}}", "{{> \u2603other}}"]
 OTHERS += ['{{#*inline "p"}}i{{/inline}}{{nothing 1}}']
-# What is added to a limit: the last where no inclusion has pairs, with which each level copies what those around it copied.
+# What is added to a limit. The last one is used if no partial call has hash arguments: with these each level copies what those
+# around it copied.
 MORE = [1, 1, 2, 64, 1000]
 PAIRED = re.compile(r"\{\{[^}]*>[^}]*=")
 
 
 class Stopped(Exception):
-    """What is wrong with the tool or the program, and no finding."""
+    """Something is wrong with the tool or the program. This is no finding."""
 
 
-# ---- rows of a case
+# ---- test cases of a case
 
 
 def source_of(pieces):
@@ -36,8 +37,8 @@ def main_name(case):
 
 
 def a_folder(draw, templates):
-    """The files of a folder that has the templates and more, the step that registers it, and what that is to come to: the
-    paths that are asked for, and behind which of them which name stands."""
+    """The files of a folder that has the templates and more, the step that registers it, and the expected result of that: the
+    paths that are asked for, and the name that is registered after each, if any."""
     end = draw.choice([".hbs", ".hbs", ".hbs", ".t", "x.y", ".html"])
     top = draw.choice(["d", "d/e", "d.hbs", "./d", "é"])
     step = {"folder": top, **({"extension": end} if end != ".hbs" or draw.random() < 0.2 else {})}
@@ -97,7 +98,7 @@ def hides(step, entry):
 
 
 class Rows:
-    """The rows of a case by label, and what was drawn for them."""
+    """The test cases of a case by label, and what was drawn for them."""
 
     def __init__(self, case):
         draw = random.Random(case.seed)
@@ -135,7 +136,7 @@ class Rows:
                 row["pieces"] = []
 
     def has_pairs(self):
-        """Whether an inclusion may have pairs."""
+        """Whether a partial call may have hash arguments."""
         return any(PAIRED.search(it) for it in self.all.values())
 
     def failing(self, draw):
@@ -166,13 +167,13 @@ ESCAPED = {"n": "\n", "r": "\r", "t": "\t", "0": "\0", "\\": "\\", '"': '"', "'"
 PLACES = [re.compile(r", line (\d+)"), re.compile(r", column (\d+)")]
 WAY = re.compile(r"    (wanted|registry|converted|template|writer|converting|pieces): +")
 Refusal = collections.namedtuple("Refusal", "reason line column template")
-# The template is the name of one that is included, None of an inline partial, and FIRST of the one that is rendered.
+# The template is the name of an included one, None for an inline partial, and FIRST for the one that is rendered.
 Piece = collections.namedtuple("Piece", "kind text template place turns path")
 FIRST = False
 
 
 class Answer:
-    """What one way answers. A text that is handed out and refused is none."""
+    """The answer of one render call. A call that returns a text has none if it fails."""
 
     def __init__(self, text, refusal):
         self.text, self.refusal = text, refusal
@@ -213,7 +214,7 @@ def read_texts(line, at):
 
 
 def read_refusal(line, at):
-    """A refusal, and where it ends."""
+    """An error, and where it ends."""
     if not line.startswith("refused: ", at):
         raise Stopped(f"no refusal at {at} of {line[:300]!r}")
     reason, at = read_text(line, at + 9)
@@ -242,7 +243,7 @@ def read_answer(line, at):
 
 @functools.lru_cache(maxsize=64)
 def read_pieces(told):
-    """The pieces of an answer. The rows of a case mostly have the same."""
+    """The pieces of an answer. The test cases of a case mostly have the same."""
     return tuple(read_piece(**it) for it in json.loads(told))
 
 
@@ -266,7 +267,7 @@ def read_told(answer, line):
 
 
 def read_answers(printed, count):
-    """The answers of each row, by way."""
+    """The answers of each test case, by render call."""
     lines = printed.split("\n")
     if not lines[0].endswith(f": {count} of {count} rows differ"):
         raise Stopped(f"not all rows differ: {lines[0][-100:]!r}")

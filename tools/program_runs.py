@@ -1,19 +1,19 @@
-"""Runs of a program that stand in folders, for tools/try-readme.
+"""Runs of a program that are stored in folders, for tools/try-readme.
 
-A run is a folder RUN with these files, of which one that is missing is empty, or 0 for `status`:
+A run is a folder RUN with these files. A missing file counts as empty, and a missing `status` as 0:
 
-    args     the words, one a line
+    args     the arguments, one a line
     status, stdout, stderr
-             what it has to end with and to write, to the byte
-    asked    the paths that it has to open, one a line and in this order, that of a folder with a `/` behind it; if there is
+             the expected exit status and output, to the byte
+    asked    the paths that it has to open, one a line and in this order, that of a folder with a `/` after it; if there is
              no such file, it may open any
-    refused  what the system refuses, an error and the path that is refused with it, as `ENOENT t.hbs`; `ENOMEM` without a
-             path refuses the first request for memory
-    closed   the stream whose reader is gone, `stdout` or `stderr`
+    refused  the system call that fails: an error and the path that it occurs for, as `ENOENT t.hbs`; with `ENOMEM` without a
+             path the first request for memory fails
+    closed   the stream whose reader is closed, `stdout` or `stderr`
 
-The runs of examples/NAME/runs are of `hbs`, from within examples/NAME, and those of crates/PROGRAM/runs/NAME of that program,
-from within crates/PROGRAM/runs/NAME, where their files lie beside them. A C compiler, `cc`, makes what tells of paths and
-refuses (tools/refuse_files.c, tools/refuse_growth.c)."""
+The runs of examples/NAME/runs are those of `hbs`, run in examples/NAME. The runs of crates/PROGRAM/runs/NAME are those of that
+program, run in crates/PROGRAM/runs/NAME, where their files are. A C compiler, `cc`, compiles the library that records the paths
+and makes calls fail (tools/refuse_files.c, tools/refuse_growth.c)."""
 import errno
 import os
 import pathlib
@@ -26,14 +26,14 @@ SECONDS = 60
 
 
 class Run:
-    """A run: its program, the folder where it runs and the one that it stands in."""
+    """A run: its program, the folder where it runs, and the folder that describes it."""
 
     def __init__(self, program, where, folder):
         self.program, self.where, self.folder = TOP / f"crates/{program}/out/{program}", where, folder
         self.name = str(folder.relative_to(TOP))
 
     def given(self, name, missing=b""):
-        """What stands in a file of the run."""
+        """The content of a file of the run."""
         file = self.folder / name
         return file.read_bytes() if file.exists() else missing
 
@@ -43,7 +43,7 @@ class Run:
         return {**ends, "asked": asked.read_bytes()} if asked.exists() else ends
 
     def got(self, refuser):
-        """What it ends with, under the names of what is wanted."""
+        """The results of the run, under the names of the expected ones."""
         words = self.given("args").split(b"\n")[:-1]
         closed = self.given("closed").decode().split()
         with tempfile.TemporaryDirectory() as room:
@@ -60,7 +60,7 @@ class Run:
 
 
 def refusal_of(words):
-    """What has the error of these words happen."""
+    """The environment that makes the error of these words occur."""
     if not words:
         return {}
     if words == ["ENOMEM"]:
@@ -70,14 +70,14 @@ def refusal_of(words):
 
 
 def broken_pipe():
-    """Where a write fails, since nobody reads."""
+    """A pipe on which writes fail, since its reader is closed."""
     reader, writer = os.pipe()
     os.close(reader)
     return writer
 
 
 def made_refuser(room):
-    """What is loaded before a program."""
+    """Compiles the library that is loaded before a program."""
     made = os.path.join(room, "refuse.so")
     sources = [str(TOP / f"tools/{it}.c") for it in ("refuse_files", "refuse_growth")]
     subprocess.run(["cc", "-O2", "-fPIC", "-shared", "-o", made, *sources, "-ldl"], check=True)
@@ -85,7 +85,7 @@ def made_refuser(room):
 
 
 def all_runs():
-    """The runs of the examples, and those that stand beside programs."""
+    """The runs of the examples, and those in the folders of programs."""
     for args in sorted(TOP.glob("examples/*/runs/*/args")):
         yield Run("hbs", args.parents[2], args.parent)
     for args in sorted(TOP.glob("crates/*/runs/*/*/args")):

@@ -1,6 +1,6 @@
-/* Loaded before a program (LD_PRELOAD), it tells which paths the program opens, and refuses one of them. ASKED_FILES=FILE
-   gets a line for each path, in the order in which they are opened; one that is opened as a folder ends in `/`.
-   REFUSE_FILE=PATH is refused with the error whose number is REFUSE_WITH. */
+/* Loaded before a program (LD_PRELOAD), it records which paths the program opens, and makes opening one of them fail.
+   A line for each path is written to ASKED_FILES=FILE, in the order in which they are opened. The path of a folder ends in `/`.
+   Opening REFUSE_FILE=PATH fails with the error whose number is REFUSE_WITH. */
 #define _GNU_SOURCE
 #include <dlfcn.h>
 #include <errno.h>
@@ -23,7 +23,7 @@ __attribute__((constructor)) static void begin(void)
         asked = next(path, O_WRONLY | O_CREAT | O_APPEND | O_CLOEXEC, 0600);
 }
 
-/* Tells of a path, and whether it is refused. */
+/* Records a path. Returns whether opening it fails. */
 static int is_refused(const char *path)
 {
     if (asked >= 0)

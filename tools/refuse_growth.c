@@ -1,8 +1,8 @@
-/* Loaded before a program (LD_PRELOAD), it counts the program's requests for memory and refuses one of them, or all from
-   one on. REFUSE_GROWTH=N refuses request N, counted from 1, REFUSE_FROM=N that one and all behind it; without either
-   none is refused. COUNT_GROWTHS=FILE writes their number to the file when the program ends. A request is a call of
-   malloc, calloc, realloc, aligned_alloc or posix_memalign for more than no bytes; one that is refused answers that there
-   is no memory. */
+/* Loaded before a program (LD_PRELOAD), it counts the program's requests for memory and makes one of them fail, or all from
+   one on. With REFUSE_GROWTH=N request N fails, counted from 1. With REFUSE_FROM=N that one fails and all after it. Without
+   either none fails. COUNT_GROWTHS=FILE writes their number to the file when the program ends. A request is a call of
+   malloc, calloc, realloc, aligned_alloc or posix_memalign for more than 0 bytes. One that fails reports that there is no
+   memory. */
 #define _GNU_SOURCE
 #include <errno.h>
 #include <stddef.h>
@@ -38,7 +38,7 @@ __attribute__((destructor)) static void end(void)
     }
 }
 
-/* Whether this request is refused. */
+/* Returns whether this request fails. */
 static int is_refused(size_t size)
 {
     if (!is_counting || size == 0)

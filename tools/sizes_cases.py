@@ -1,13 +1,13 @@
-"""The cases of tools/try-sizes, and here those of one source and its data: texts, tags, refusals, nesting, and JSON.
+"""The cases of tools/try-sizes with one source and its data: texts, tags, errors, nesting, and JSON.
 
-Those that need more, inclusions, folders and outputs, stand in sizes_folders.py."""
+Those that need more, which are partials, folders and outputs, are in sizes_folders.py."""
 from sizes_runs import TOO_DEEP, UNREADABLE, line_shown, put, refused, refused_line, rendering_error, renders, source_error
 
 # ---- cases
 
 
 class Case:
-    """What is tried under a name: a task of any size, or of one alone; or one whose least stack is sought."""
+    """A named case: a task of any size, or of one size only, or one for which the least stack is searched."""
 
     def __init__(self, name, make, full=None, unit="", seeks_stack=False):
         self.name, self.make, self.full, self.unit, self.seeks_stack = name, make, full, unit, seeks_stack
@@ -20,7 +20,7 @@ CASES = []
 
 
 def sized(full, unit="bytes"):
-    """A case that is made in any size."""
+    """A case of any size."""
 
     def of(make):
         CASES.append(Case(make.__name__.replace("_", "-"), make, full, unit))
@@ -85,7 +85,7 @@ def text_backslashes_before_tag(size):
     return renders([(b"\\", size), b"{{a}}"], b'{"a":"x"}', [(b"\\", size - 1), b"x"])
 
 
-# ---- tags, and what may be long in one
+# ---- tags, and their parts that may be long
 
 
 def many(size, tag, written, data=b'{"a":true}', folder=None):
@@ -127,7 +127,7 @@ several(
 
 
 def one_tag(size, front, piece, back, written=b""):
-    """A tag that is long by what stands in it again and again. What is written may be made of how often."""
+    """A tag that is long because a part of it is repeated. The output may depend on the number of repetitions."""
     count = (size - len(front) - len(back)) // len(piece)
     return renders([front, (piece, count), back], b'{"a":"x"}', written(count) if callable(written) else written)
 
@@ -207,7 +207,7 @@ def path_of_a_section(size):
     return renders([b"{{#", *parts, b"}}x{{else}}y{{/", *parts, b"}}"], b'{"a":1}', b"y")
 
 
-# ---- sources that are refused
+# ---- sources that are rejected
 
 
 def refused_at_once(size, front, piece, back=b"", message=UNREADABLE, column=1):
@@ -445,7 +445,7 @@ def array_as_a_value(size):
 
 @sized(1_000_000, "items")
 def array_of_a_call(size):
-    """It has no path, and so it is copied into the block."""
+    """It has no path, and so it is copied into the scope frame."""
     return renders(b"{{#each (lookup this 0)}}{{this}},{{/each}}", [b"[", *array(size), b"]"], [(b"7,", size)])
 
 
@@ -456,7 +456,7 @@ def array_of_objects(size):
 
 
 def mixed_keys(size):
-    """All numbers below the size, each once, in no order."""
+    """All numbers below the size, each once, unsorted."""
     step = 7919 if size % 7919 else 7907
     return (it * step % size for it in range(size))
 
@@ -475,7 +475,7 @@ def object_of_one_key(size):
 
 @sized(20_000_000)
 def object_of_long_keys(size):
-    """A thousand bytes of a key are alike, so that many are compared."""
+    """The first thousand bytes of all keys are equal, so that many bytes are compared."""
     count, front = size // 1012, b"k" * 1000
     members = lambda: (b'"%b%07d":1,' % (front, it) for it in mixed_keys(count))
     return renders(b"{{#each this}}{{this}}{{/each}}", [b"{", members, b'"l":2}'], [(b"1", count), b"2"])

@@ -1,4 +1,4 @@
-"""The cases of tools/try-sizes of inclusions, of folders, and of outputs that fail."""
+"""The cases of tools/try-sizes with partials, with folders, and with outputs that fail."""
 import errno
 import json
 import os
@@ -7,11 +7,11 @@ import signal
 from sizes_cases import CASES, OPENING, Case, fixed, several, sized
 from sizes_runs import MEGABYTE, STACK, Task, put, refused, rendering_error, renders
 
-# ---- inclusions
+# ---- partials
 
 
 def inclusion_files(files, blocks, opening, end, innermost=()):
-    """Files p0, p1 and so on, of which each writes a sign and includes the next one within blocks."""
+    """Files p0, p1 and so on. Each writes a character and includes the next one within blocks."""
 
     def make(folder):
         for it in range(files):
@@ -38,7 +38,7 @@ def inclusions_65_of_200_blocks():
 
 
 def blocks_in_all(size, opening, end):
-    """So many blocks in each other: in a source and in 64 templates, of which each includes the next one."""
+    """This many nested blocks: in a source and in 64 templates, of which each includes the next one."""
     return nested_inclusions(64, size // 65, opening, end)
 
 
@@ -61,7 +61,7 @@ several(
 
 
 def row_of_inclusions(size, stack=STACK):
-    """Two templates that include each other, as often as the limit says, and once more."""
+    """Two templates that include each other, as often as the limit allows, and once more."""
     row = {"templates": {"a": "x{{> b}}", "b": "y{{> a}}"}, "limit": size, "source": "{{> a}}"}
     row.update(text=[["xy", size // 2], "x" * (size % 2)], reason=f"Inclusions nest deeper than {size}")
     row.update(line=1, column=2, template="ba"[size % 2])
@@ -71,15 +71,15 @@ def row_of_inclusions(size, stack=STACK):
 
 
 def data_of_depth(depth):
-    """Objects in each other around 1, as the text of a row."""
+    """Nested objects around 1, as a long text of a test case."""
     return [['{"n":', depth], "1", ["}", depth]]
 
 
 @fixed
 def inclusions_of_itself_200_blocks():
-    """A template that includes itself within 200 blocks, as deep as the data are: from a source 64 times and by its name 64
-    times more than itself, and then without an end. No script and no row of the gate nests so deep, since these also run as
-    Rattle's own compiler builds them, where a block takes more of the stack."""
+    """A template that includes itself within 200 blocks, as deep as the data are: from a source 64 times, by its name 64 times
+    in addition to itself, and then without an end. No script and no test case of CI nests so deeply, since these are also built
+    by Rattle's own compiler, where a block takes more of the stack."""
     ends = {"p": "{{#if @root.n}}" * 199 + "x{{#with n}}{{> p}}{{/with}}" + "{{/if}}" * 199}
     endless = {"p": "{{#if n}}" * 200 + "{{> p}}" + "{{/if}}" * 200}
     refusal = {"reason": "Inclusions nest deeper than 64", "line": 1, "column": 1801, "template": "p"}
@@ -100,7 +100,7 @@ def inclusions_in_each_other(size):
 
 @fixed
 def inclusions_without_stack():
-    """Where the stack doesn't hold them, the system ends the program."""
+    """If the stack is too small for them, the system ends the program."""
     task = row_of_inclusions(65_535)
     task.status, task.out = -signal.SIGSEGV, b""
     return task
@@ -111,7 +111,7 @@ CASES.append(Case("stack-of-inclusions", row_of_inclusions, 8192, "inclusions", 
 
 @sized(100_000)
 def tags_within_4000_blocks_of_scope(size):
-    """A name is sought in each block of scope around, since each may bind it."""
+    """A name is looked up in each enclosing scope frame, since each may bind it."""
     files = inclusion_files(20, 200, b"{{#with @root}}", b"{{/with}}", [(b"{{a}}", size // 5)])
     return renders(b"{{> p0}}", b'{"a":7}', [(b"x", 20), (b"7", size // 5)], files)
 
@@ -120,7 +120,7 @@ def tags_within_4000_blocks_of_scope(size):
 
 
 def put_many(folder, paths, text):
-    """Files of one text, a thousand of which are one file by several names: so they are made sooner."""
+    """Files with the same text. A thousand of them are links to one file, which is faster."""
     for number, path in enumerate(paths):
         path = folder + b"/" + path
         if number % 1000 == 0:
@@ -152,7 +152,7 @@ def folder_of_folders(size):
 
 @sized(100_000, "files")
 def folder_of_other_files(size):
-    """Files that aren't taken."""
+    """Files that aren't registered."""
 
     def make(folder):
         put_many(folder, (it + b".txt" for it in names(size)), b"{{")
@@ -162,7 +162,7 @@ def folder_of_other_files(size):
 
 
 def levels(count):
-    """Folders in each other, the first one below the given one, with a file in each."""
+    """Nested folders, the first one in the given one, with a file in each."""
 
     def make(folder):
         for number in range(count + 1):
@@ -188,7 +188,7 @@ def folder_66_levels():
 
 @fixed
 def folder_paths_too_long():
-    """Folders whose paths are longer than the system takes count as empty."""
+    """Folders whose paths are longer than the system allows count as empty."""
 
     def make(folder):
         kept = os.getcwd()
@@ -205,7 +205,7 @@ def folder_paths_too_long():
 
 @fixed
 def folder_names_not_utf_8():
-    """What has no name that is a text is left out."""
+    """Files and folders whose names aren't UTF-8 are left out."""
 
     def make(folder):
         put(folder + b"/a.hbs", b"x")
@@ -224,7 +224,7 @@ def folder_text_not_utf_8():
 
 @fixed
 def folder_link_to_itself():
-    """A link is a file, and one without the extension is none that is taken."""
+    """A link counts as a file, and without the extension it isn't registered."""
 
     def make(folder):
         put(folder + b"/a.hbs", b"x")
@@ -256,7 +256,7 @@ def folder_link_to_a_folder():
 
 
 def with_output(output, text, error, signals=False):
-    """A rendering whose output fails: with one piece that fits the buffer, or one that doesn't."""
+    """A rendering whose output fails, with one piece that fits into the buffer, or one that doesn't."""
     task = refused(renders([(b"x", text)]), error)
     task.outputs, task.signals = {1: output}, signals
     return task
@@ -286,7 +286,7 @@ failing_outputs()
 
 @fixed
 def output_many_pieces_full():
-    """The piece that no longer fits the buffer is refused, at its line: 2,730 lines of 3 bytes fit."""
+    """The piece that doesn't fit into the buffer any more fails, at its line: 2,730 lines of 3 bytes fit."""
     task = refused(renders([(b"{{a}}\n", 5000)], b'{"a":"xx"}'), within(errno.ENOSPC, 2731, 6))
     task.outputs = {1: "full"}
     return task
@@ -294,7 +294,7 @@ def output_many_pieces_full():
 
 @fixed
 def output_error_full():
-    """Where the error can't be said, the status still tells of it."""
+    """If the error can't be printed, the status still reports it."""
     task = refused(renders(b"{{this}}", b"{"), b"", 2)
     task.outputs = {2: "full"}
     return task

@@ -1,4 +1,4 @@
-"""Of tools/try-sizes: texts of any length, what a case runs and what is wanted of it, and its runs."""
+"""For tools/try-sizes: texts of any length, what a case runs and what is expected of it, and its runs."""
 import hashlib
 import os
 import resource
@@ -12,10 +12,10 @@ SECONDS = 600
 MEGABYTE = 1 << 20
 # How much of a text is in memory at once.
 PIECE = 1 << 16
-# The stack that most systems give, and the most memory that a run may take.
+# The stack of most systems, and the most memory that a run may take.
 STACK, MEMORY = 8 * MEGABYTE, 12 << 30
 
-# ---- texts: bytes, or a list of parts, each bytes, or bytes and how often they stand there, or a function that yields bytes
+# ---- texts: bytes, or a list of parts, each bytes, or bytes and how often they are repeated, or a function that yields bytes
 
 
 def repeated(piece, count):
@@ -26,7 +26,7 @@ def repeated(piece, count):
 
 
 def gathered(pieces):
-    """Short pieces, many together."""
+    """Joins many short pieces."""
     kept = []
     for piece in pieces:
         kept.append(piece)
@@ -47,7 +47,7 @@ def chunks(text):
 
 
 class Sum:
-    """What is compared of a text that is too long to be kept: how long it is, its hash, and its beginning."""
+    """What is compared of a text that is too long to be stored: its length, its hash, and its beginning."""
 
     def __init__(self, pieces=()):
         self.count, self.hash, self.front = 0, hashlib.blake2b(digest_size=16), b""
@@ -77,11 +77,11 @@ def put(path, text):
             file.write(piece)
 
 
-# ---- what a case runs, and what is wanted of it
+# ---- what a case runs, and what is expected of it
 
 
 class Task:
-    """A run: files to be made, the words behind the program, and the status and the texts that are wanted of it."""
+    """A run: the files to be made, the arguments of the program, and the expected status and texts."""
 
     def __init__(self, files, words, out=b"", status=0, error=b"", folder=None):
         self.files, self.words, self.folder = files, words, folder
@@ -109,7 +109,7 @@ def length_of(text):
 
 
 def line_shown(content, column, number=0):
-    """The line of a source with its fault, as an error shows it: with a sign for each of its bytes below."""
+    """The line of a source with a syntax error, as the error shows it: with a character for each of its bytes below."""
     length = length_of(content)
     before = min(column, length)
     behind = [b"^", (b"-", length - column - 1)] if column < length else []
@@ -117,7 +117,7 @@ def line_shown(content, column, number=0):
 
 
 def source_error(reason, line, column, shown):
-    """What is printed of a source that doesn't compile; `shown` are the lines around, with numbers from 0."""
+    """What is printed for a source that doesn't compile. `shown` are the lines around the error, with numbers from 0."""
     reason = [reason] if isinstance(reason, bytes) else reason
     place = f'\n    --> Template error in "Unnamed":{line}:{column}\n     |\n'.encode()
     lines = [part for line in shown for part in line]
@@ -126,7 +126,7 @@ def source_error(reason, line, column, shown):
 
 
 def refused_line(message, source, column=1):
-    """A source of one line that is refused at a column."""
+    """A source of one line that is rejected at a column."""
     reason = b"invalid handlebars syntax: " + message
     return refused(renders(source), source_error(reason, 1, column, [line_shown(source, column)]))
 
@@ -137,7 +137,7 @@ UNREADABLE, TOO_DEEP = b"unreadable tag", b"nesting too deep"
 
 
 class Ran:
-    """What a run came to: its status, what it wrote, the seconds of the user, and the most bytes of memory."""
+    """The result of a run: its status, its output, the seconds of user time, and the peak memory in bytes."""
 
     def __init__(self, status, out, error, usage, late):
         self.status, self.out, self.error, self.late = status, out, error, late
@@ -145,7 +145,7 @@ class Ran:
 
 
 def begin_child(program, task, room, out):
-    """In the child: its folder, its outputs and its limits, and then the program in its place."""
+    """In the child: sets its folder, its outputs and its limits, and then executes the program."""
     try:
         os.chdir(room)
         os.dup2(out, 1)
@@ -178,12 +178,12 @@ def give_output(number, output):
 
 
 def status_of(waited):
-    """As a shell tells it, but negative where a signal ended the program."""
+    """The status as a shell reports it, but negative if a signal ended the program."""
     return -os.WTERMSIG(waited) if os.WIFSIGNALED(waited) else os.WEXITSTATUS(waited)
 
 
 def ended(child, reads):
-    """What a child wrote to a pipe, how it ended, what it used, and whether it had to be ended."""
+    """What a child wrote to a pipe, its status, its resource usage, and whether it had to be ended."""
     late = []
 
     def too_long(_number, _frame):
@@ -218,7 +218,7 @@ def run(programs, task, room):
 
 
 def faults_of(task, ran):
-    """What differs from what is wanted."""
+    """What differs from the expected result."""
     if ran.late:
         return [f"didn't end within {SECONDS} seconds"]
     faults = []
@@ -232,7 +232,7 @@ def faults_of(task, ran):
 
 
 def fill(room, task):
-    """Makes the files of a run, and its folder where it has one."""
+    """Makes the files of a run, and its folder if it has one."""
     for name, text in task.files.items():
         put(f"{room}/{name}", text)
     if task.folder:
@@ -241,7 +241,7 @@ def fill(room, task):
 
 
 def run_alone(programs, task):
-    """Runs a task in a folder of its own, which is gone behind it."""
+    """Runs a task in a new folder, which is removed after it."""
     room = tempfile.mkdtemp(prefix="try-sizes-")
     try:
         fill(room, task)

@@ -1,4 +1,4 @@
-//! Why a run ends, as a person reads it.
+//! Why a run ends, in words for users.
 
 ghost use Rattle.std.specs.Prelude.{◌≡◌};
 
@@ -6,13 +6,13 @@ use handlebars::{RenderError, TemplateError};
 use std::alloc::{AllocError, AllocFailed};
 use std::{fmt, io};
 
-/// Why a run ends, or a page isn't written.
+/// Why a run ends, or why a page isn't written.
 #[derive(Drop)]
 pub enum Failure {
     Usage,
-    /// A template that isn't one, with the lines around the fault, or a file that can't be read.
+    /// A template that doesn't compile, with the lines around the error, or a file that can't be read.
     Template(TemplateError),
-    /// The page of this path is refused: the template's name, the line and the column, and the reason.
+    /// The rendering of the page at this path failed: the name of the template, the line and the column, and the reason.
     Page(String, RenderError),
     Io(io::Error),
     OutOfMemory,

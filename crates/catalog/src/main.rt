@@ -1,6 +1,6 @@
-//! `catalog [--dev] TEMPLATES PAGES`: writes the pages of a shop, one for each product and an index, to the folder
-//! `PAGES`, with the templates of the folder `TEMPLATES`. With `--dev` it then waits: each line of standard input
-//! writes all pages again, with the templates as their files are by then, until the input ends.
+//! `catalog [--dev] TEMPLATES PAGES`: writes the pages of a shop, one for each product and an index, to the folder `PAGES`,
+//! with the templates of the folder `TEMPLATES`. With `--dev` it then waits: each line of standard input writes all pages
+//! again, from the current files of the templates, until the input ends.
 #![tactic(auto)]
 
 mod failure;
@@ -26,23 +26,25 @@ fn main(rt: HostRuntime) -> ExitCode {
     }
 }
 
-// What the words ask for.
+// The arguments of the command line.
 #[derive(Drop)]
-struct Words {
+struct Arguments {
     dev: bool,
     templates: String,
     pages: String,
 }
 
-fn command_line(rt: &HostRuntime) -> Result<Words, Failure> {
-    let mut words = env::args(rt)?.skip(1);
-    let mut first = words.next();
-    let dev = first.as_ref().is_some_and(|word| word.as_str() == "--dev");
+fn command_line(rt: &HostRuntime) -> Result<Arguments, Failure> {
+    let mut arguments = env::args(rt)?.skip(1);
+    let mut first = arguments.next();
+    let dev = first
+        .as_ref()
+        .is_some_and(|argument| argument.as_str() == "--dev");
     if dev {
-        first = words.next();
+        first = arguments.next();
     }
-    match (first, words.next(), words.next()) {
-        (Some(templates), Some(pages), None) => Ok(Words {
+    match (first, arguments.next(), arguments.next()) {
+        (Some(templates), Some(pages), None) => Ok(Arguments {
             dev,
             templates,
             pages,
@@ -53,34 +55,34 @@ fn command_line(rt: &HostRuntime) -> Result<Words, Failure> {
 
 fn run(rt: &HostRuntime) -> Result<(), Failure> {
     let alloc = rt.alloc();
-    let words = command_line(rt)?;
+    let arguments = command_line(rt)?;
     let mut files = FileReader::new(rt, alloc);
     let mut registry = Handlebars::new(alloc)?;
     registry.set_strict_mode(true);
-    registry.set_dev_mode(words.dev);
+    registry.set_dev_mode(arguments.dev);
     let price: Box<dyn HelperDef> = Box::new(alloc, Price { alloc })?;
     registry.register_helper("price", HelperEntry::Own(price))?;
     registry.register_templates_directory(
-        words.templates.as_str(),
+        arguments.templates.as_str(),
         Default::default(),
         &mut files,
     )?;
-    write_pages(rt, &registry, &words, &mut files)
+    write_pages(rt, &registry, &arguments, &mut files)
 }
 
 fn write_pages<F: TemplateReader>(
     rt: &HostRuntime,
     registry: &Handlebars,
-    words: &Words,
+    arguments: &Arguments,
     files: &mut F,
 ) -> Result<(), Failure> {
     let shop = sample_shop(rt.alloc())?;
     let site = Site {
         rt,
         registry,
-        folder: words.pages.as_str(),
+        folder: arguments.pages.as_str(),
     };
-    if words.dev {
+    if arguments.dev {
         site.watch(&shop, files)
     } else {
         site.write(&shop, files)

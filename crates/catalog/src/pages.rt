@@ -33,18 +33,23 @@ impl<R: Files + Input + Print + AllocGlobal> Site<'_, R> {
         Ok(())
     }
 
-    /// Writes all pages, and writes them again for each line of the input. In dev mode the registry reads the files of
-    /// its templates each time, so a template that was changed shows; one that is refused is told, and nothing ends.
+    /// Writes all pages, and writes them again for each line of the input. In dev mode the registry reads the files of its
+    /// templates each time, so changes of a template show. If a template is rejected, its error is printed, and the run goes
+    /// on.
     pub fn watch<F: TemplateReader>(&self, shop: &Shop, files: &mut F) -> Result<(), Failure> {
-        self.write_or_tell(shop, files)?;
+        self.write_or_report(shop, files)?;
         for line in self.rt.lines(self.rt.alloc()) {
             line?;
-            self.write_or_tell(shop, files)?;
+            self.write_or_report(shop, files)?;
         }
         Ok(())
     }
 
-    fn write_or_tell<F: TemplateReader>(&self, shop: &Shop, files: &mut F) -> Result<(), Failure> {
+    fn write_or_report<F: TemplateReader>(
+        &self,
+        shop: &Shop,
+        files: &mut F,
+    ) -> Result<(), Failure> {
         if let Err(failure) = self.write(shop, files) {
             println!(self.rt; "{failure}")?;
         }
@@ -52,7 +57,7 @@ impl<R: Files + Input + Print + AllocGlobal> Site<'_, R> {
         Ok(())
     }
 
-    // A page, whose path is told once it is written.
+    // Writes a page, and then prints its path.
     fn write_page<T: Serialize, F: TemplateReader>(
         &self,
         page: &str,
@@ -68,7 +73,7 @@ impl<R: Files + Input + Print + AllocGlobal> Site<'_, R> {
         }
     }
 
-    // Through a buffer, which is emptied at a refusal too: the file then has what stands before it.
+    // Writes through a buffer, which is also flushed after an error: the file then holds the output that precedes the error.
     fn render<T: Serialize, F: TemplateReader>(
         &self,
         path: &str,

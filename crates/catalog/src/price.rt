@@ -12,8 +12,8 @@ use handlebars::{
 };
 use std::alloc::{AllocError, Global};
 
-/// `{{price cents}}`: an amount of cents, in euros. It is a value: escaped where it is written, and `(price cents)` in
-/// parentheses. Anything but a whole number from 0 is refused.
+/// `{{price cents}}`: an amount of cents, in euros. It returns a value, which is escaped where it is written, and can be passed
+/// on as `(price cents)`. Fails unless the amount is a whole number from 0.
 #[derive(Drop)]
 pub struct Price {
     pub alloc: Global,
@@ -53,7 +53,7 @@ impl HelperDef for Price {
     ghost one_offer = { λ h q a b i j. ∣ i ∙ sym j ∣₁ };
 }
 
-// The first parameter of a call, where it is a whole number from 0.
+// The first parameter of a call, if it is a whole number from 0.
 fn amount(h: &Helper) -> Option<u64>
     ensures { result ≡ amount (helper_view h.now) }
 {

@@ -1,9 +1,9 @@
-//! What the pages show.
+//! The data of the pages.
 
 use serde::Serialize;
 use std::alloc::{AllocError, Global};
 
-/// A shop, over which the index is rendered.
+/// A shop: the data of the index.
 #[derive(Drop, Serialize)]
 pub struct Shop {
     pub name: &'static str,
@@ -20,14 +20,14 @@ pub struct Product {
     pub stock: u32,
 }
 
-/// What a product's page is rendered over.
+/// The data of a product's page.
 #[derive(Drop, Serialize)]
 pub struct ProductPage<'a> {
     pub shop: &'a str,
     pub product: &'a Product,
 }
 
-/// The shop of this example; yours would read its products from somewhere.
+/// Returns the shop of this example. Another program would read its products from somewhere.
 pub fn sample_shop(alloc: Global) -> Result<Shop, AllocError> {
     let sencha = Product {
         id: "sencha",

@@ -6,43 +6,43 @@ use Rattle.handlebars_base.specs.Reasons.{Refusal, TemplateRefusal, of_template}
 use Rattle.handlebars_base.specs.RenderRefusals.{plain_refusal, refusal_of}
 use Rattle.handlebars_base.specs.declared.error.render_error.RenderError.{RenderError}
 use Rattle.handlebars_template.specs.Tree.{Tree}
-use Rattle.handlebars_tags.specs.Options.{Options}
-use Rattle.handlebars_template.specs.Compile.{Compilation, compiled, refused}
+use Rattle.handlebars_lexer.specs.Options.{Options}
+use Rattle.handlebars_template.specs.Compile.{Compilation, compiled, rejected}
 use Rattle.handlebars_template.proofs.One.{one_compilation}
-use Rattle.handlebars_meaning.specs.Names.{included_names}
-use Rattle.handlebars_meaning.specs.Pieces.{Piece}
-use Rattle.handlebars_meaning.specs.State.{IsLawful, Setting, State, first_state}
-use Rattle.handlebars_meaning.specs.Means.{render_tree}
-use Rattle.handlebars_meaning.specs.Runs.{Outcome, Ended, Refused, Means}
-use Rattle.handlebars_render.specs.View.{GivesString, RefusesString}
-use Rattle.handlebars_meaning.specs.Answer.{Beginning, a_tree, no_tree, FromSource, compiles, does_not, FromName, is_stored, is_not, not_begun, rendered, GivesText, RefusesWith, HasOneAnswer, AnswerHasOrigins, AnswerStays, NamedAnswerStays}
+use Rattle.handlebars_semantics.specs.Names.{included_names}
+use Rattle.handlebars_semantics.specs.Pieces.{Piece}
+use Rattle.handlebars_semantics.specs.State.{IsLawful, Setting, State, first_state}
+use Rattle.handlebars_semantics.specs.Means.{render_tree}
+use Rattle.handlebars_semantics.specs.Runs.{Outcome, Ended, Failed, Means}
+use Rattle.handlebars_render.specs.View.{GivesString, StringFails}
+use Rattle.handlebars_semantics.specs.Answer.{Beginning, a_tree, no_tree, FromSource, compiles, does_not, FromName, is_stored, is_not, not_begun, has_begun, GivesText, FailsWith, HasOneAnswer, AnswerHasOrigins, AnswerStays, NamedAnswerStays}
 use Rattle.handlebars_laws.proofs.Once.{comes_once}
 use Rattle.handlebars_laws.proofs.OtherTemplates.{same_answer_under_larger, answer_only_by_names, named_answer_only_by_names}
 use Rattle.handlebars_laws.proofs.RenamedRuns.{named_answer_as_source}
 use Rattle.handlebars_laws.proofs.RunLaws.{Runs-one}
 use Rattle.handlebars_laws.proofs.RunOrigins.{all_have_origins, comes_in_trees}
-use Rattle.handlebars_meaning.specs.Laws.{IsPlain}
+use Rattle.handlebars_semantics.specs.Laws.{IsPlain}
 
 -- ---- at most one beginning
 
 refusal_or : TemplateRefusal → Compilation → TemplateRefusal
 refusal_or d (compiled t) = d
-refusal_or d (refused f) = f
+refusal_or d (rejected f) = f
 
 tree_or : Tree → Compilation → Tree
 tree_or d (compiled t) = t
-tree_or d (refused f) = d
+tree_or d (rejected f) = d
 
-refused-injective : {f g : TemplateRefusal} → refused f ≡ refused g → f ≡ g
+rejected-injective : {f g : TemplateRefusal} → rejected f ≡ rejected g → f ≡ g
 unfolding refusal_or
-refused-injective {f = f} e = ap (refusal_or f) e
+rejected-injective {f = f} e = ap (refusal_or f) e
 
 compiled-injective : {t u : Tree} → compiled t ≡ compiled u → t ≡ u
 unfolding tree_or
 compiled-injective {t = t} e = ap (tree_or t) e
 
-compiled≢refused : {t : Tree} {f : TemplateRefusal} → compiled t ≡ refused f → ⊥
-compiled≢refused e = cc
+compiled≢rejected : {t : Tree} {f : TemplateRefusal} → compiled t ≡ rejected f → ⊥
+compiled≢rejected e = cc
 
 abbrev pub IsOne : (Beginning → Type 0) → Type 0
 IsOne begins = (a b : Beginning) → begins a → begins b → a ≡ b
@@ -51,12 +51,12 @@ pub FromSource-one : (options : Options) (source : Text) → IsOne (FromSource o
 FromSource-one options source _ _ (compiles {t = t} a) (compiles {t = u} b) =
     ap a_tree (compiled-injective (one_compilation source options (compiled t) (compiled u) a b))
 FromSource-one options source _ _ (compiles {t = t} a) (does_not {r = f} b) =
-    absurd (compiled≢refused (one_compilation source options (compiled t) (refused f) a b))
+    absurd (compiled≢rejected (one_compilation source options (compiled t) (rejected f) a b))
 FromSource-one options source _ _ (does_not {r = f} a) (compiles {t = t} b) =
-    absurd (compiled≢refused (one_compilation source options (compiled t) (refused f) b a))
+    absurd (compiled≢rejected (one_compilation source options (compiled t) (rejected f) b a))
 FromSource-one options source _ _ (does_not {r = f} a) (does_not {r = g} b) =
     ap (λ (z : TemplateRefusal). no_tree (plain_refusal (of_template z)))
-    (refused-injective (one_compilation source options (refused f) (refused g) a b))
+    (rejected-injective (one_compilation source options (rejected f) (rejected g) a b))
 
 Some-injective : {t u : Tree} → Some t ≡ Some u → t ≡ u
 Some-injective e = cc
@@ -103,10 +103,10 @@ module _ (p : Setting) (lawful : IsLawful p.parts) (begins : Beginning → Type 
 
   pub has_one_answer : HasOneAnswer p begins
   has_one_answer _ _ _ _ (not_begun {r = r} a) (not_begun {r = q} b) h i =
-      ∣ (refl, ap (λ (z : Refusal). Refused z) (no_tree-injective (one (no_tree r) (no_tree q) a b)), refl) ∣₁
-  has_one_answer _ _ _ _ (not_begun {r = r} a) (rendered {t = t} b x) h i = absurd (a_tree≢no_tree (one (a_tree t) (no_tree r) b a))
-  has_one_answer _ _ _ _ (rendered {t = t} b x) (not_begun {r = r} a) h i = absurd (a_tree≢no_tree (one (a_tree t) (no_tree r) b a))
-  has_one_answer _ _ _ _ (rendered {t = t} a x) (rendered {t = u} b y) h i =
+      ∣ (refl, ap (λ (z : Refusal). Failed z) (no_tree-injective (one (no_tree r) (no_tree q) a b)), refl) ∣₁
+  has_one_answer _ _ _ _ (not_begun {r = r} a) (has_begun {t = t} b x) h i = absurd (a_tree≢no_tree (one (a_tree t) (no_tree r) b a))
+  has_one_answer _ _ _ _ (has_begun {t = t} b x) (not_begun {r = r} a) h i = absurd (a_tree≢no_tree (one (a_tree t) (no_tree r) b a))
+  has_one_answer _ _ _ _ (has_begun {t = t} a x) (has_begun {t = u} b y) h i =
       let n = Means-tree (a_tree-injective (one (a_tree t) (a_tree u) a b)) y in
       ∥∥₁_map (Runs-one lawful x n.0 h i) (λ e. (e.0, e.1, e.2 ∙ n.1))
 
@@ -114,8 +114,8 @@ module _ (p : Setting) (lawful : IsLawful p.parts) (begins : Beginning → Type 
 
 pub answer_has_origins : (p : Setting) (begins : Beginning → Type 0) → AnswerHasOrigins p begins
 answer_has_origins p begins ps o (not_begun a) = tt
-answer_has_origins p begins ps o (rendered {t = t} a r) =
-    let plain : IsPlain (first_state p.parts.recursive) = record { escapes = refl; indent = refl; kept = refl } in (
+answer_has_origins p begins ps o (has_begun {t = t} a r) =
+    let plain : IsPlain (first_state p.parts.recursive) = record { escapes = refl; indent = refl; captured = refl } in (
       all_have_origins p t (first_state p.parts.recursive) ps o plain r,
       (comes_once p t (first_state p.parts.recursive) ps o r, comes_in_trees p t (first_state p.parts.recursive) ps o plain r),
     )
@@ -136,21 +136,21 @@ named_answer_stays p name = record {
 -- ---- what calls answer
 
 module _ (p : Setting) (begins : Beginning → Type 0) where
-  pub refuses_before : (q : Refusal) (e : RenderError) → begins (no_tree q) → refusal_of e ≡ q → RefusesWith p begins (refusal_of e)
-  refuses_before q e b is =
-      subst (λ (z : Refusal). RefusesWith p begins z) (sym is) (record { pieces = []; answers = not_begun b })
+  pub fails_before : (q : Refusal) (e : RenderError) → begins (no_tree q) → refusal_of e ≡ q → FailsWith p begins (refusal_of e)
+  fails_before q e b is =
+      subst (λ (z : Refusal). FailsWith p begins z) (sym is) (record { pieces = []; answers = not_begun b })
 
   module _ (t : Tree) (first : State) (begun : begins (a_tree t)) (is_first : first ≡ first_state p.parts.recursive) where
     pub gives_text : {next : State} {text : Text} → GivesString p (render_tree t) first next text → GivesText p begins text
     gives_text {next = next} g = record {
       pieces = g.pieces;
       last = next;
-      answers = rendered begun (subst (λ (s : State). Means p t s g.pieces (Ended next)) is_first g.runs);
+      answers = has_begun begun (subst (λ (s : State). Means p t s g.pieces (Ended next)) is_first g.runs);
       is = g.is;
     }
 
-    pub refuses_with : {f : Refusal} → RefusesString p (render_tree t) first f → RefusesWith p begins f
-    refuses_with {f = f} g = record {
+    pub fails_with : {f : Refusal} → StringFails p (render_tree t) first f → FailsWith p begins f
+    fails_with {f = f} g = record {
       pieces = g.pieces;
-      answers = rendered begun (subst (λ (s : State). Means p t s g.pieces (Refused f)) is_first g.runs);
+      answers = has_begun begun (subst (λ (s : State). Means p t s g.pieces (Failed f)) is_first g.runs);
     }

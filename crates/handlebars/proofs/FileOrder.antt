@@ -11,7 +11,7 @@ use Rattle.std.specs.Prelude.{string_bytes}
 use Rattle.std.specs.Str.{bytes_eq}
 use Rattle.std.specs.String.{string_cmp}
 use Rattle.handlebars_base.specs.Bytes.{Text}
-use Rattle.handlebars.specs.Files.{IsByName, file_of, files_in, path_in, path_under}
+use Rattle.handlebars.specs.Files.{IsByName, file_of, files_in, source_path, path_under}
 
 -- ---- their order
 
@@ -29,7 +29,7 @@ unfolding IsStrictlySortedBy
 in-order [] h = h
 in-order (e ∷ es) h = (all-seen _ es h.0, in-order es h.1)
 
--- ---- what stands under a name
+-- ---- what is registered under a name
 
 first-same : (b c : Bool) (path : String Global) (o : Option (String Global)) (p : Option Text) → b ≡ c → option_map string_bytes o ≡ p
     → option_map string_bytes (cond b (Some path) o) ≡ cond c (Some (string_bytes path)) p
@@ -46,6 +46,6 @@ under-same name (e ∷ es) =
     (is_eq-slice_cmp name (string_bytes e.0)) (under-same name es)
 
 pub files-under : (paths : Option (BTreeMap (String Global) (String Global))) (name : Text)
-    → path_in paths name ≡ path_under (files_in paths) name
+    → source_path paths name ≡ path_under (files_in paths) name
 files-under None name = refl
 files-under (Some m) name = under-same name m.entries

@@ -8,13 +8,13 @@ pub mod OneOrder
 pub mod OneReading
 pub mod OneWalk
 pub mod OverLaws
-pub mod OwnLaws
+pub mod UserLaws
 pub mod Paths
 pub mod ReadFiles
 pub mod Rendered
 pub mod Stored
 pub mod TakenBack
-pub mod Telling
+pub mod Emitting
 pub mod Texts
 pub mod Walks
 pub mod WithoutFiles
@@ -23,7 +23,7 @@ pub mod Writing
 pub mod WritesRead
 pub mod Agreement
 mod Evaluated
-mod KeptBytes
+mod HeldBytes
 mod TakenWalks
 mod MarkupFaults
 mod MarkupNames

@@ -1,11 +1,11 @@
--- What a registry has behind registrations of files.
+-- What a registry has after registrations of files.
 use Rattle.std.proofs.Common.{◌≡◌, Bool, true, false, List, [], ◌∷◌, ◌++◌, cond, Option, None, Some, refl, sym, ap, ◌∙◌, String, Global}
 use Rattle.std.specs.BTreeMap.{BTreeMap}
 use Rattle.std.specs.Option.{option_or}
 use Rattle.std.specs.Prelude.{is_some}
 use Rattle.std.specs.Str.{bytes_eq}
 use Rattle.handlebars_base.specs.Bytes.{Text}
-use Rattle.handlebars.specs.Files.{HasLoaded, Loaded, laid_over, last_under, path_in, path_put, path_among, remembered_path, is_dev}
+use Rattle.handlebars.specs.Files.{HasLoaded, Loaded, overlaid_on, last_under, source_path, path_put, path_among, remembered_path, is_dev}
 use Rattle.handlebars.specs.View.{stored_tree}
 use Rattle.handlebars.specs.declared.registry.RegistryOf.{RegistryOf}
 
@@ -13,19 +13,19 @@ pub cond-same : {X : Type 0} (b : Bool) (x : X) → cond b x x ≡ x
 cond-same true x = refl
 cond-same false x = refl
 
--- what is put under a name is laid over what stood there
-pub put-laid : {X : Type 0} (b : Bool) (x : X) (o : Option X) → cond b (Some x) o ≡ option_or (cond b (Some x) None) o
-put-laid true x o = refl
-put-laid false x o = refl
+-- what is put under a name is overlaid on what was there
+pub put-overlaid : {X : Type 0} (b : Bool) (x : X) (o : Option X) → cond b (Some x) o ≡ option_or (cond b (Some x) None) o
+put-overlaid true x o = refl
+put-overlaid false x o = refl
 
-pub path_put-laid : (d : Bool) (l : Loaded) (old : Text → Option Text) (other : Text)
-    → path_put d l.name (Some l.path) old other ≡ cond d (laid_over (path_among (l ∷ [])) old other) (old other)
-path_put-laid true l old other = put-laid (bytes_eq l.name other) l.path (old other)
-path_put-laid false l old other = refl
+pub path_put-overlaid : (d : Bool) (l : Loaded) (old : Text → Option Text) (other : Text)
+    → path_put d l.name (Some l.path) old other ≡ cond d (overlaid_on (path_among (l ∷ [])) old other) (old other)
+path_put-overlaid true l old other = put-overlaid (bytes_eq l.name other) l.path (old other)
+path_put-overlaid false l old other = refl
 
--- nothing is taken away where nothing is remembered
+-- nothing is removed where nothing is remembered
 pub path_put-none : (paths : Option (BTreeMap (String Global) (String Global))) (b : Bool) (other : Text)
-    → cond (is_some paths) (cond b None (path_in paths other)) (path_in paths other) ≡ cond b None (path_in paths other)
+    → cond (is_some paths) (cond b None (source_path paths other)) (source_path paths other) ≡ cond b None (source_path paths other)
 path_put-none None b other = sym (cond-same b None)
 path_put-none (Some m) b other = refl
 
@@ -44,20 +44,20 @@ last_under-append of (l ∷ ls) ms name =
     ap (λ o. option_or o (cond (bytes_eq l.name name) (Some (of l)) None)) (last_under-append of ls ms name)
     ∙ option_or-assoc (last_under of ms name) (last_under of ls name) (cond (bytes_eq l.name name) (Some (of l)) None)
 
-laid-twice : {X : Type 0} (of : Loaded → X) (ls ms : List Loaded) (old : Text → Option X) (mid new : Option X) (name : Text)
+overlaid-twice : {X : Type 0} (of : Loaded → X) (ls ms : List Loaded) (old : Text → Option X) (mid new : Option X) (name : Text)
     → mid ≡ option_or (last_under of ls name) (old name) → new ≡ option_or (last_under of ms name) mid
     → new ≡ option_or (last_under of (ls ++ ms) name) (old name)
-laid-twice of ls ms old mid new name first second =
+overlaid-twice of ls ms old mid new name first second =
     second ∙ ap (option_or (last_under of ms name)) first
     ∙ sym (option_or-assoc (last_under of ms name) (last_under of ls name) (old name))
     ∙ ap (λ o. option_or o (old name)) (sym (last_under-append of ls ms name))
 
-laid-twice-if : (d e : Bool) (ls ms : List Loaded) (old : Text → Option Text) (mid new : Option Text) (name : Text) → e ≡ d
-    → mid ≡ cond d (laid_over (path_among ls) old name) (old name) → new ≡ cond e (option_or (path_among ms name) mid) mid
-    → new ≡ cond d (laid_over (path_among (ls ++ ms)) old name) (old name)
-laid-twice-if true e ls ms old mid new name same first second =
-    laid-twice (λ l. l.path) ls ms old mid new name first (second ∙ ap (λ b. cond b (option_or (path_among ms name) mid) mid) same)
-laid-twice-if false e ls ms old mid new name same first second =
+overlaid-twice-if : (d e : Bool) (ls ms : List Loaded) (old : Text → Option Text) (mid new : Option Text) (name : Text) → e ≡ d
+    → mid ≡ cond d (overlaid_on (path_among ls) old name) (old name) → new ≡ cond e (option_or (path_among ms name) mid) mid
+    → new ≡ cond d (overlaid_on (path_among (ls ++ ms)) old name) (old name)
+overlaid-twice-if true e ls ms old mid new name same first second =
+    overlaid-twice (λ l. l.path) ls ms old mid new name first (second ∙ ap (λ b. cond b (option_or (path_among ms name) mid) mid) same)
+overlaid-twice-if false e ls ms old mid new name same first second =
     second ∙ ap (λ b. cond b (option_or (path_among ms name) mid) mid) same ∙ first
 
 module _ {E : Type 0} where
@@ -73,8 +73,8 @@ module _ {E : Type 0} where
   pub loaded-then : {ls ms : List Loaded} (old mid new : RegistryOf E) → HasLoaded ls old mid → HasLoaded ms mid new
       → HasLoaded (ls ++ ms) old new
   loaded-then {ls = ls} {ms = ms} old mid new a b = record {
-    trees = λ n. laid-twice (λ l. l.tree) ls ms (stored_tree old) (stored_tree mid n) (stored_tree new n) n (a.trees n) (b.trees n);
-    files = λ n. laid-twice-if (is_dev old) (is_dev mid) ls ms (remembered_path old) (remembered_path mid n) (remembered_path new n) n a.dev
+    trees = λ n. overlaid-twice (λ l. l.tree) ls ms (stored_tree old) (stored_tree mid n) (stored_tree new n) n (a.trees n) (b.trees n);
+    files = λ n. overlaid-twice-if (is_dev old) (is_dev mid) ls ms (remembered_path old) (remembered_path mid n) (remembered_path new n) n a.dev
         (a.files n) (b.files n);
     entries = b.entries ∙ a.entries;
     modes = b.modes ∙ a.modes;

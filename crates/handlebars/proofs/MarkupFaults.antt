@@ -15,16 +15,16 @@ use Rattle.handlebars_base.specs.Optional.{with_or}
 use Rattle.handlebars_template.specs.Tree.{Tree}
 use Rattle.handlebars_template.specs.TreeView.{tree_view}
 use Rattle.handlebars_template.specs.declared.template.tree.Template.{Template}
-use Rattle.handlebars_helpers.specs.OwnAnswers.{Registrations}
-use Rattle.handlebars_meaning.specs.Answer.{Beginning, a_tree}
-use Rattle.handlebars_meaning.specs.State.{Parts}
+use Rattle.handlebars_helpers.specs.UserAnswers.{Registrations}
+use Rattle.handlebars_semantics.specs.Answer.{Beginning, a_tree}
+use Rattle.handlebars_semantics.specs.State.{Parts}
 use Rattle.handlebars_markup.specs.Faults.{Fault, faults_of_parts, faults_of_tree}
 use Rattle.handlebars_markup.specs.FaultsView.{fault_of}
 use Rattle.handlebars_markup.specs.TwoRuns.{registrations}
 use Rattle.handlebars_markup.specs.declared.fault.MarkupFault.{MarkupFault}
 use Rattle.handlebars_markup.proofs.Faults.{decide_trees, decide_parts}
-use Rattle.handlebars.specs.Files.{laid_over}
-use Rattle.handlebars.specs.Markup.{NoSource, IsFaultOf, of_parts, of_source, of_stored, TellsFaults, IsAllBlind, faults_under, faults_under_all, names_in, unread}
+use Rattle.handlebars.specs.Files.{overlaid_on}
+use Rattle.handlebars.specs.Markup.{NoSource, IsFaultOf, of_parts, of_source, of_stored, ReportsFaults, IsAllBlind, faults_under, faults_under_all, key_names, unread}
 
 -- ---- elements of lists
 
@@ -34,8 +34,8 @@ Contains-nil x h = let less = h.1 in absurd (omega arith)
 Contains-head : {X : Type 0} (x : X) (xs : List X) → Contains (x ∷ xs) x
 Contains-head x xs = Contains-append_left (x ∷ []) xs x (Contains-push [] x)
 
-Contains-behind : {X : Type 0} (x : X) (xs : List X) (y : X) → Contains xs y → Contains (x ∷ xs) y
-Contains-behind x xs y h = Contains-append_right (x ∷ []) xs y h
+Contains-after : {X : Type 0} (x : X) (xs : List X) (y : X) → Contains xs y → Contains (x ∷ xs) y
+Contains-after x xs y h = Contains-append_right (x ∷ []) xs y h
 
 -- the one element of a list
 Contains-one : {X : Type 0} (x y : X) → Contains (y ∷ []) x → y ≡ x
@@ -50,19 +50,19 @@ empty-list (x ∷ xs) h = absurd (h x (Contains-head x xs))
 
 named-by : {X : Type 0} (n : Text) (k : String Global) (v : X) (es : List (String Global × X)) (x : X) (b : Bool)
     → is_eq (slice_cmp nat_cmp n (string_bytes k)) ≡ b
-    → (lookup (λ q. is_eq (slice_cmp nat_cmp n (string_bytes q))) es ≡ Some x → Contains (names_in es) n)
+    → (lookup (λ q. is_eq (slice_cmp nat_cmp n (string_bytes q))) es ≡ Some x → Contains (key_names es) n)
     → lookup (λ q. is_eq (slice_cmp nat_cmp n (string_bytes q))) ((k, v) ∷ es) ≡ Some x
-    → Contains (names_in ((k, v) ∷ es)) n
+    → Contains (key_names ((k, v) ∷ es)) n
 named-by n k v es x true e rest h =
-    subst (λ (t : Text). Contains (string_bytes k ∷ names_in es) t)
+    subst (λ (t : Text). Contains (string_bytes k ∷ key_names es) t)
     (sym ((bytes_decides n (string_bytes k)).0 (sym (is_eq-slice_cmp n (string_bytes k)) ∙ e)))
-    (Contains-head (string_bytes k) (names_in es))
+    (Contains-head (string_bytes k) (key_names es))
 named-by n k v es x false e rest h =
-    Contains-behind (string_bytes k) (names_in es) n (rest (subst (λ (b : Bool). cond b (Some v) (lookup (λ q. is_eq (slice_cmp nat_cmp n (string_bytes q))) es) ≡ Some x) e h))
+    Contains-after (string_bytes k) (key_names es) n (rest (subst (λ (b : Bool). cond b (Some v) (lookup (λ q. is_eq (slice_cmp nat_cmp n (string_bytes q))) es) ≡ Some x) e h))
 
--- a name under which something stands is among the names
+-- a name under which something is registered is among the names
 pub lookup-named : {X : Type 0} (n : Text) (es : List (String Global × X)) (x : X)
-    → lookup (λ q. is_eq (slice_cmp nat_cmp n (string_bytes q))) es ≡ Some x → Contains (names_in es) n
+    → lookup (λ q. is_eq (slice_cmp nat_cmp n (string_bytes q))) es ≡ Some x → Contains (key_names es) n
 lookup-named n [] x h = cc
 lookup-named n (e ∷ es) x h =
     named-by n e.0 e.1 es x (is_eq (slice_cmp nat_cmp n (string_bytes e.0))) refl (lookup-named n es x) h
@@ -74,13 +74,13 @@ module _ (r : Registrations) (template : Text → Option Tree) where
   pub record HasFault (f : Fault) : Type 0 where
     pub name : Text
     pub tree : Tree
-    pub stands : template name ≡ Some tree
+    pub is_tree : template name ≡ Some tree
     pub has : Contains (faults_of_tree r (Some name) tree) f
 
   under-by : (n : Text) (f : Fault) (o : Option Tree) → template n ≡ o
       → Contains (with_or o (faults_of_tree r (Some n)) []) f → HasFault f
   under-by n f None e h = Contains-nil f h
-  under-by n f (Some t) e h = record { name = n; tree = t; stands = e; has = h }
+  under-by n f (Some t) e h = record { name = n; tree = t; is_tree = e; has = h }
 
   pub faults_under_all-only : (ns : List Text) (f : Fault) → Contains (faults_under_all r template ns) f → HasFault f
   faults_under_all-only [] f h = Contains-nil f h
@@ -111,7 +111,7 @@ unread-by : (read : Text → Option Tree) (n m : Text) (ns : List Text) (b : Boo
     → (Contains ns n → Contains (unread read ns) n) → Contains (cond b (m ∷ unread read ns) (unread read ns)) n
 unread-by read n m ns true e c none rest =
     ⊎_elim (λ here. subst (λ (k : Text). Contains (m ∷ unread read ns) k) (Contains-one n m here) (Contains-head m (unread read ns)))
-    (λ there. Contains-behind m (unread read ns) n (rest there)) (Contains-append_cases (m ∷ []) ns n c)
+    (λ there. Contains-after m (unread read ns) n (rest there)) (Contains-append_cases (m ∷ []) ns n c)
 unread-by read n m ns false e c none rest =
     ⊎_elim
     (λ here. absurd (false≢true (sym e ∙ ap (λ (k : Text). not (is_some (read k))) (Contains-one n m here) ∙ none)))
@@ -123,39 +123,39 @@ unread-has read n [] none c = Contains-nil n c
 unread-has read n (m ∷ ns) none c =
     unread-by read n m ns (not (is_some (read m))) refl c none (unread-has read n ns none)
 
--- under a name of one map laid over another stands what stands there in the first, or else in the second
+-- under a name of one map overlaid on another there is what the first has, or else what the second has
 module _ (above below : List (String Global × Template)) where
-  abbrev pub found : List (String Global × Template) → Text → Option Tree
-  found es n = option_map tree_view (lookup (λ q. is_eq (slice_cmp nat_cmp n (string_bytes q))) es)
+  abbrev pub found_among : List (String Global × Template) → Text → Option Tree
+  found_among es n = option_map tree_view (lookup (λ q. is_eq (slice_cmp nat_cmp n (string_bytes q))) es)
 
-  abbrev pub both : Text → Option Tree
-  both n = laid_over (found above) (found below) n
+  abbrev pub found_in_both : Text → Option Tree
+  found_in_both n = overlaid_on (found_among above) (found_among below) n
 
   named-by-both : (n : Text) (t : Tree) (o p : Option Template)
       → lookup (λ q. is_eq (slice_cmp nat_cmp n (string_bytes q))) above ≡ o
       → lookup (λ q. is_eq (slice_cmp nat_cmp n (string_bytes q))) below ≡ p
       → option_or (option_map tree_view o) (option_map tree_view p) ≡ Some t
-      → Contains (names_in above) n ⊎ Contains (unread (found above) (names_in below)) n
+      → Contains (key_names above) n ⊎ Contains (unread (found_among above) (key_names below)) n
   named-by-both n t (Some x) p e f h = inl (lookup-named n above x e)
   named-by-both n t None (Some y) e f h =
-      inr (unread-has (found above) n (names_in below) (ap (λ o. not (is_some (option_map tree_view o))) e) (lookup-named n below y f))
+      inr (unread-has (found_among above) n (key_names below) (ap (λ o. not (is_some (option_map tree_view o))) e) (lookup-named n below y f))
   named-by-both n t None None e f h = cc
 
-  pub named-both : (n : Text) (t : Tree) → both n ≡ Some t
-      → Contains (names_in above) n ⊎ Contains (unread (found above) (names_in below)) n
+  pub named-both : (n : Text) (t : Tree) → found_in_both n ≡ Some t
+      → Contains (key_names above) n ⊎ Contains (unread (found_among above) (key_names below)) n
   named-both n t h = named-by-both n t _ _ refl refl h
 
 module _ (p : Parts) where
   of_fault : {begins : Beginning → Type 0} {f : Fault} → HasFault (registrations p) p.template f → IsFaultOf p begins f
-  of_fault h = of_stored h.stands h.has
+  of_fault h = of_stored h.is_tree h.has
 
-  tells-all : (ns ms : List Text)
+  reports-all : (ns ms : List Text)
       → ((n : Text) (t : Tree) → p.template n ≡ Some t → Contains ns n ⊎ Contains ms n)
       → (f : Fault) → IsFaultOf p NoSource f → Contains (faults_of_parts (registrations p)
       ++ (faults_under_all (registrations p) p.template ns ++ faults_under_all (registrations p) p.template ms)) f
-  tells-all ns ms named f (of_parts h) = Contains-append_left (faults_of_parts (registrations p)) _ f h
-  tells-all ns ms named f (of_source b h) = absurd b
-  tells-all ns ms named f (of_stored {n = n} {t = t} e h) =
+  reports-all ns ms named f (of_parts h) = Contains-append_left (faults_of_parts (registrations p)) _ f h
+  reports-all ns ms named f (of_source b h) = absurd b
+  reports-all ns ms named f (of_stored {n = n} {t = t} e h) =
       let r = registrations p in
       let first = faults_under_all r p.template ns in
       let second = faults_under_all r p.template ms in
@@ -165,12 +165,12 @@ module _ (p : Parts) where
       (λ c. Contains-append_right first second f (faults_under_all-named r p.template ms n t f e h c))
       (named n t e))
 
-  -- what stands under two lists of names that have all
-  pub tells-registered : (ns ms : List Text)
+  -- what is registered under two lists of names that have all
+  pub reports-registered : (ns ms : List Text)
       → ((n : Text) (t : Tree) → p.template n ≡ Some t → Contains ns n ⊎ Contains ms n)
-      → TellsFaults p NoSource (faults_of_parts (registrations p)
+      → ReportsFaults p NoSource (faults_of_parts (registrations p)
       ++ (faults_under_all (registrations p) p.template ns ++ faults_under_all (registrations p) p.template ms))
-  tells-registered ns ms named =
+  reports-registered ns ms named =
       let r = registrations p in
       let first = faults_under_all r p.template ns in
       let second = faults_under_all r p.template ms in
@@ -181,7 +181,7 @@ module _ (p : Parts) where
             (λ y. of_fault (faults_under_all-only r p.template ms f y))
             (Contains-append_cases first second f x))
             (Contains-append_cases (faults_of_parts r) (first ++ second) f h);
-        all = λ f h. tells-all ns ms named f h;
+        all = λ f h. reports-all ns ms named f h;
       }
 
   of_any : (begins : Beginning → Type 0) (f : Fault) → IsFaultOf p NoSource f → IsFaultOf p begins f
@@ -190,7 +190,7 @@ module _ (p : Parts) where
   of_any begins f (of_stored x y) = of_stored x y
 
   source-all : (begins : Beginning → Type 0) (t : Tree) (fs : List Fault) → ((u : Tree) → begins (a_tree u) → u ≡ t)
-      → TellsFaults p NoSource fs → (f : Fault) → IsFaultOf p begins f
+      → ReportsFaults p NoSource fs → (f : Fault) → IsFaultOf p begins f
       → Contains (faults_of_tree (registrations p) None t ++ fs) f
   source-all begins t fs one h f (of_parts x) =
       Contains-append_right (faults_of_tree (registrations p) None t) fs f (h.all f (of_parts x))
@@ -201,18 +201,18 @@ module _ (p : Parts) where
       Contains-append_right (faults_of_tree (registrations p) None t) fs f (h.all f (of_stored x y))
 
   -- the one tree that a rendering begins with, before what is registered
-  pub tells-source : (begins : Beginning → Type 0) (t : Tree) (fs : List Fault) → begins (a_tree t)
-      → ((u : Tree) → begins (a_tree u) → u ≡ t) → TellsFaults p NoSource fs
-      → TellsFaults p begins (faults_of_tree (registrations p) None t ++ fs)
-  tells-source begins t fs b one h = record {
+  pub reports-source : (begins : Beginning → Type 0) (t : Tree) (fs : List Fault) → begins (a_tree t)
+      → ((u : Tree) → begins (a_tree u) → u ≡ t) → ReportsFaults p NoSource fs
+      → ReportsFaults p begins (faults_of_tree (registrations p) None t ++ fs)
+  reports-source begins t fs b one h = record {
     only = λ f c. ⊎_elim (λ x. of_source b x) (λ x. of_any begins f (h.only f x))
         (Contains-append_cases (faults_of_tree (registrations p) None t) fs f c);
     all = source-all begins t fs one h;
   }
 
-  -- where nothing is told, all is blind
-  pub blind-untold : (begins : Beginning → Type 0) → TellsFaults p begins [] → IsAllBlind p begins
-  blind-untold begins h = record {
+  -- if nothing is reported, everything is blind
+  pub blind-unreported : (begins : Beginning → Type 0) → ReportsFaults p begins [] → IsAllBlind p begins
+  blind-unreported begins h = record {
     registered = record {
       parts = (decide_parts (registrations p)).0 (empty-list _ (λ f c. Contains-nil f (h.all f (of_parts c))));
       stored = λ n t e. (decide_trees (registrations p) (Some n) t).0 (empty-list _ (λ f c. Contains-nil f (h.all f (of_stored e c))));
@@ -228,9 +228,9 @@ module _ (p : Parts) (begins : Beginning → Type 0) where
   fault-same above below same f (of_source x y) = of_source x y
   fault-same above below same f (of_stored {n = n} x y) = of_stored (sym (same n) ∙ x) y
 
-  pub tells-same : (above below : Text → Option Tree) (fs : List Fault) → ((n : Text) → above n ≡ below n)
-      → TellsFaults (record p { template = above }) begins fs → TellsFaults (record p { template = below }) begins fs
-  tells-same above below fs same h = record {
+  pub reports-same : (above below : Text → Option Tree) (fs : List Fault) → ((n : Text) → above n ≡ below n)
+      → ReportsFaults (record p { template = above }) begins fs → ReportsFaults (record p { template = below }) begins fs
+  reports-same above below fs same h = record {
     only = λ f c. fault-same above below same f (h.only f c);
     all = λ f c. h.all f (fault-same below above (λ n. sym (same n)) f c);
   }

@@ -1,4 +1,4 @@
--- Templates are looked at one after another, in the order of a map.
+-- Templates are checked one after another, in the order of a map.
 use Rattle.std.proofs.Common.{◌≡◌, Bool, true, false, cond, not, is_some, List, [], ◌∷◌, ◌++◌, map, Option, None, Some, option_map, String, Global, refl, sym, ap, ◌∙◌, subst, append_assoc}
 use Rattle.std.specs.BTreeMap.{BTreeMap, get_by_text}
 use Rattle.std.specs.Prelude.{string_bytes}
@@ -6,40 +6,40 @@ use Rattle.handlebars_base.specs.Bytes.{Text}
 use Rattle.handlebars_template.specs.Tree.{Tree}
 use Rattle.handlebars_template.specs.TreeView.{tree_view}
 use Rattle.handlebars_template.specs.declared.template.tree.Template.{Template}
-use Rattle.handlebars_helpers.specs.OwnAnswers.{Registrations}
+use Rattle.handlebars_helpers.specs.UserAnswers.{Registrations}
 use Rattle.handlebars_markup.specs.Faults.{Fault}
-use Rattle.handlebars_markup.specs.FaultsView.{fault_of, Finds}
+use Rattle.handlebars_markup.specs.FaultsView.{fault_of, AddsFindings}
 use Rattle.handlebars_markup.specs.declared.fault.MarkupFault.{MarkupFault}
-use Rattle.handlebars_markup.proofs.Finding.{Leads, leads-goes, leads-ends}
+use Rattle.handlebars_markup.proofs.Finding.{Accumulates, leads-goes, leads-ends}
 use Rattle.handlebars.specs.Files.{tree_in}
-use Rattle.handlebars.specs.Markup.{faults_under, faults_under_all, names_in, unread}
+use Rattle.handlebars.specs.Markup.{faults_under, faults_under_all, key_names, unread}
 
 -- what is found, and then more
-pub finds-then : (a b c : List MarkupFault) (xs ys : List Fault) → Finds a b xs → Finds b c ys → Finds a c (xs ++ ys)
+pub finds-then : (a b c : List MarkupFault) (xs ys : List Fault) → AddsFindings a b xs → AddsFindings b c ys → AddsFindings a c (xs ++ ys)
 finds-then a b c xs ys f g = g ∙ ap (λ z. z ++ ys) f ∙ append_assoc (map fault_of a) xs ys
 
 module _ (r : Registrations) (template : Text → Option Tree) (first : List MarkupFault) (all : List Fault) where
   abbrev LeadsOver : List MarkupFault → List Text → Type 0
-  LeadsOver now ns = Leads first now (faults_under_all r template ns) all
+  LeadsOver now ns = Accumulates first now (faults_under_all r template ns) all
 
   one-more : (now next : List MarkupFault) (n m : Text) (ns : List Text) → m ≡ n → LeadsOver now (n ∷ ns)
-      → Finds now next (faults_under r template m) → LeadsOver next ns
+      → AddsFindings now next (faults_under r template m) → LeadsOver next ns
   one-more now next n m ns same leads finds =
       leads-goes first now next (faults_under r template n) (faults_under_all r template ns) all leads
-      (subst (λ (k : Text). Finds now next (faults_under r template k)) same finds)
+      (subst (λ (k : Text). AddsFindings now next (faults_under r template k)) same finds)
 
   pub names-next : (now next : List MarkupFault) (es rest : List (String Global × Template)) (e : String Global × Template)
-      (m : Text) → es ≡ e ∷ rest → m ≡ string_bytes e.0 → LeadsOver now (names_in es)
-      → Finds now next (faults_under r template m) → LeadsOver next (names_in rest)
+      (m : Text) → es ≡ e ∷ rest → m ≡ string_bytes e.0 → LeadsOver now (key_names es)
+      → AddsFindings now next (faults_under r template m) → LeadsOver next (key_names rest)
   names-next now next es rest e m steps same leads finds =
-      one-more now next (string_bytes e.0) m (names_in rest) same
-      (subst (λ (xs : List (String Global × Template)). LeadsOver now (names_in xs)) steps leads) finds
+      one-more now next (string_bytes e.0) m (key_names rest) same
+      (subst (λ (xs : List (String Global × Template)). LeadsOver now (key_names xs)) steps leads) finds
 
-  pub names-end : (now : List MarkupFault) (es : List (String Global × Template)) → es ≡ [] → LeadsOver now (names_in es)
-      → Finds first now all
+  pub names-end : (now : List MarkupFault) (es : List (String Global × Template)) → es ≡ [] → LeadsOver now (key_names es)
+      → AddsFindings first now all
   names-end now es none leads =
-      leads-ends first now (faults_under_all r template (names_in es)) all leads
-      (ap (λ (xs : List (String Global × Template)). faults_under_all r template (names_in xs)) none)
+      leads-ends first now (faults_under_all r template (key_names es)) all leads
+      (ap (λ (xs : List (String Global × Template)). faults_under_all r template (key_names xs)) none)
 
   -- ---- those that weren't read
 
@@ -49,30 +49,30 @@ module _ (r : Registrations) (template : Text → Option Tree) (first : List Mar
     unread-as n ns b e = ap (λ (c : Bool). cond c (n ∷ unread read ns) (unread read ns)) e
 
     leads-as : (now : List MarkupFault) (es rest : List (String Global × Template)) (e : String Global × Template) (b : Bool)
-        → es ≡ e ∷ rest → not (is_some (read (string_bytes e.0))) ≡ b → LeadsOver now (unread read (names_in es))
-        → LeadsOver now (cond b (string_bytes e.0 ∷ unread read (names_in rest)) (unread read (names_in rest)))
+        → es ≡ e ∷ rest → not (is_some (read (string_bytes e.0))) ≡ b → LeadsOver now (unread read (key_names es))
+        → LeadsOver now (cond b (string_bytes e.0 ∷ unread read (key_names rest)) (unread read (key_names rest)))
     leads-as now es rest e b steps is leads =
         subst (λ (ns : List Text). LeadsOver now ns)
-        (ap (λ (xs : List (String Global × Template)). unread read (names_in xs)) steps ∙ unread-as (string_bytes e.0) (names_in rest) b is)
+        (ap (λ (xs : List (String Global × Template)). unread read (key_names xs)) steps ∙ unread-as (string_bytes e.0) (key_names rest) b is)
         leads
 
     pub unread-next : (now next : List MarkupFault) (es rest : List (String Global × Template)) (e : String Global × Template)
         (m : Text) → es ≡ e ∷ rest → m ≡ string_bytes e.0 → not (is_some (read (string_bytes e.0))) ≡ true
-        → LeadsOver now (unread read (names_in es)) → Finds now next (faults_under r template m)
-        → LeadsOver next (unread read (names_in rest))
+        → LeadsOver now (unread read (key_names es)) → AddsFindings now next (faults_under r template m)
+        → LeadsOver next (unread read (key_names rest))
     unread-next now next es rest e m steps same is leads finds =
-        one-more now next (string_bytes e.0) m (unread read (names_in rest)) same (leads-as now es rest e true steps is leads) finds
+        one-more now next (string_bytes e.0) m (unread read (key_names rest)) same (leads-as now es rest e true steps is leads) finds
 
     pub unread-skip : (now : List MarkupFault) (es rest : List (String Global × Template)) (e : String Global × Template)
-        → es ≡ e ∷ rest → not (is_some (read (string_bytes e.0))) ≡ false → LeadsOver now (unread read (names_in es))
-        → LeadsOver now (unread read (names_in rest))
+        → es ≡ e ∷ rest → not (is_some (read (string_bytes e.0))) ≡ false → LeadsOver now (unread read (key_names es))
+        → LeadsOver now (unread read (key_names rest))
     unread-skip now es rest e steps is leads = leads-as now es rest e false steps is leads
 
     pub unread-end : (now : List MarkupFault) (es : List (String Global × Template)) → es ≡ []
-        → LeadsOver now (unread read (names_in es)) → Finds first now all
+        → LeadsOver now (unread read (key_names es)) → AddsFindings first now all
     unread-end now es none leads =
-        leads-ends first now (faults_under_all r template (unread read (names_in es))) all leads
-        (ap (λ (xs : List (String Global × Template)). faults_under_all r template (unread read (names_in xs))) none)
+        leads-ends first now (faults_under_all r template (unread read (key_names es))) all leads
+        (ap (λ (xs : List (String Global × Template)). faults_under_all r template (unread read (key_names xs))) none)
 
 -- ---- what was read
 

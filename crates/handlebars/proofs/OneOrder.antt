@@ -73,7 +73,7 @@ module _ {X : Type 0} (lt : X → X → Bool) (order : IsStrictWeakOrder lt) whe
     | inr other ↦ tied other other
   ]
 
-  -- what ties with one of two that tie, ties with the other
+  -- if one element ties with the first of two that tie, it ties with the second
   ties-alike : (e x y : X) → lt x y ≡ false → lt y x ≡ false → ties lt e x ≡ ties lt e y
   ties-alike e x y below above =
       ap (λ b. not b && not (lt x e)) (both-or-none (lt e x) (lt e y) (λ s. order.chain e x y s below) (λ s. order.chain e y x s above))

@@ -1,4 +1,4 @@
--- What a walk of a folder registers is one, where the reader gives one answer.
+-- What a walk of a folder registers is determined, if the reader gives one answer.
 use Rattle.std.proofs.Common.{◌≡◌, ◌≢◌, ◌+◌, ℕ, arith, Bool, true, false, List, [], ◌∷◌, ◌++◌, map, Result, Err, String, Global, refl, sym, ap, ◌∙◌, subst}
 use Rattle.std.proofs.lemmas.List.Sorted.{ranks_by}
 use Rattle.std.specs.Cmp.Lexicographic.{slice_cmp}
@@ -12,8 +12,8 @@ use Rattle.std.specs.declared.io.Error.{Error}
 use Rattle.handlebars_base.specs.Bytes.{Text}
 use Rattle.handlebars_template.specs.Tree.{Tree}
 use Rattle.handlebars.specs.Files.{Loaded, Stop, no_memory}
-use Rattle.handlebars.specs.Folder.{FileFilter, Entry, IsInOrder, WalkedFolder, Walkable, a_folder, an_entry, entries_of, Walks, LoadsAt, loaded_at, listed, unlisted, listed_in_want, no_entry, goes_on, ends, takes, refuses, passes, enters, too_deep, in_want, comes_before, folder_at, is_taken, path_at}
-use Rattle.handlebars.specs.Readers.{AnswersAlike, HasOneEnd, IsSameList, IsSameRead, entry_seen}
+use Rattle.handlebars.specs.Folder.{FileFilter, Entry, IsInOrder, WalkedFolder, Walkable, a_folder, an_entry, entries_of, Walks, LoadsAt, loaded_at, listed, unlisted, listed_alloc_fails, no_entry, goes_on, ends, takes, fails, passes, enters, too_deep, alloc_fails, comes_before, folder_at, is_taken, child_path}
+use Rattle.handlebars.specs.Readers.{GivesOneAnswer, HasOneEnd, IsSameList, IsSameRead, entry_seen}
 use Rattle.handlebars.specs.declared.sources.EntryKind.{EntryKind}
 use Rattle.handlebars.specs.declared.sources.EntryKind.TheVariants.{File, Folder}
 use Rattle.handlebars.proofs.OneOrder.{map-filter, one-order}
@@ -39,13 +39,13 @@ in-one-order {es = es} {fs = fs} {xs = xs} {ys = ys} same x y =
     one-order comes_before (ranks_by string_cmp_total (λ (e : Entry). e.0)) entry_seen xs ys x.rising y.rising
     (λ e. ap (map entry_seen) (x.stable e) ∙ ties-seen e es fs same ∙ sym (ap (map entry_seen) (y.stable e)))
 
--- ---- walks that are alike
+-- ---- walks that are equal
 
--- the same tasks, as far as entries are seen
-pub data Alike : Walkable → Walkable → Type 0 where
-  folders : {p q : WalkedFolder} → p ≡ q → Alike (a_folder p) (a_folder q)
-  all_entries : {p : WalkedFolder} {xs ys : List Entry} → map entry_seen xs ≡ map entry_seen ys → Alike (entries_of p xs) (entries_of p ys)
-  one_entry : {p : WalkedFolder} {x y : Entry} → entry_seen x ≡ entry_seen y → Alike (an_entry p x) (an_entry p y)
+-- the same tasks, up to how entries are viewed
+pub data AreSameWalks : Walkable → Walkable → Type 0 where
+  folders : {p q : WalkedFolder} → p ≡ q → AreSameWalks (a_folder p) (a_folder q)
+  all_entries : {p : WalkedFolder} {xs ys : List Entry} → map entry_seen xs ≡ map entry_seen ys → AreSameWalks (entries_of p xs) (entries_of p ys)
+  one_entry : {p : WalkedFolder} {x y : Entry} → entry_seen x ≡ entry_seen y → AreSameWalks (an_entry p x) (an_entry p y)
 
 true≢false : true ≡ false → ⊥
 true≢false e = cc
@@ -72,8 +72,8 @@ folder-same : (p : WalkedFolder) {a b : Text} {m n : ℕ} → a ≡ b → m ≡ 
 folder-same p {b = b} {m = m} same levels = ap (λ z. folder_at p z m) same ∙ ap (folder_at p b) levels
 
 module _ {S : Type 0} (reads : S → Text → Result (String Global) Error → S → Type 0)
-    (lists : S → Text → Result (Vec Entry) Error → S → Type 0) (one_read : AnswersAlike IsSameRead reads)
-    (one_list : AnswersAlike IsSameList lists) (prevents : Bool) (c : FileFilter) where
+    (lists : S → Text → Result (Vec Entry) Error → S → Type 0) (one_read : GivesOneAnswer IsSameRead reads)
+    (one_list : GivesOneAnswer IsSameList lists) (prevents : Bool) (c : FileFilter) where
   list-at : {p q : WalkedFolder} {s t : S} {answer : Result (Vec Entry) Error} → p ≡ q → lists s q.path answer t
       → lists s p.path answer t
   list-at {s = s} {t = t} {answer = answer} same l = subst (λ z. lists s z.path answer t) (sym same) l
@@ -87,11 +87,11 @@ module _ {S : Type 0} (reads : S → Text → Result (String Global) Error → S
   loaded-same p {b = b} {t = t} same tree_same =
       ap (λ z. loaded_at reads lists prevents c p z t ∷ []) same ∙ ap (λ z. loaded_at reads lists prevents c p b z ∷ []) tree_same
 
-  taken≢passed : (p : WalkedFolder) {a b : Text} → a ≡ b → is_taken c (path_at p a) a ≡ true → is_taken c (path_at p b) b ≡ false → ⊥
+  taken≢passed : (p : WalkedFolder) {a b : Text} → a ≡ b → is_taken c (child_path p a) a ≡ true → is_taken c (child_path p b) b ≡ false → ⊥
   taken≢passed p same g h =
-      let here = sym g ∙ ap (λ z. is_taken c (path_at p z) z) same ∙ h in true≢false here
+      let here = sym g ∙ ap (λ z. is_taken c (child_path p z) z) same ∙ h in true≢false here
 
-  one-walk : {k j : Walkable} {s t u : S} {ls ms : List Loaded} {o q : Result (Unit {0}) Stop} → Alike k j
+  one-walk : {k j : Walkable} {s t u : S} {ls ms : List Loaded} {o q : Result (Unit {0}) Stop} → AreSameWalks k j
       → Walks reads lists prevents c k s ls o t → Walks reads lists prevents c j s ms q u → o ≢ Err no_memory → q ≢ Err no_memory
       → (ls ≡ ms) × (o ≡ q) × (t ≡ u)
   -- a folder
@@ -103,17 +103,17 @@ module _ {S : Type 0} (reads : S → Text → Result (String Global) Error → S
   one-walk (folders same) (listed l i w) (unlisted k j) m n = absurd (one_list _ _ _ _ _ _ l (list-at same k)).0
   one-walk (folders same) (unlisted l i) (listed k j v) m n = absurd (one_list _ _ _ _ _ _ l (list-at same k)).0
   one-walk (folders same) (unlisted l i) (unlisted k j) m n = (refl, refl, (one_list _ _ _ _ _ _ l (list-at same k)).1)
-  one-walk (folders same) (listed l i w) (listed_in_want k) m n = absurd (n refl)
-  one-walk (folders same) (listed l i w) in_want m n = absurd (n refl)
-  one-walk (folders same) (unlisted l i) (listed_in_want k) m n = absurd (n refl)
-  one-walk (folders same) (unlisted l i) in_want m n = absurd (n refl)
-  one-walk (folders same) (listed_in_want l) w m n = absurd (m refl)
-  one-walk (folders same) in_want w m n = absurd (m refl)
+  one-walk (folders same) (listed l i w) (listed_alloc_fails k) m n = absurd (n refl)
+  one-walk (folders same) (listed l i w) alloc_fails m n = absurd (n refl)
+  one-walk (folders same) (unlisted l i) (listed_alloc_fails k) m n = absurd (n refl)
+  one-walk (folders same) (unlisted l i) alloc_fails m n = absurd (n refl)
+  one-walk (folders same) (listed_alloc_fails l) w m n = absurd (m refl)
+  one-walk (folders same) alloc_fails w m n = absurd (m refl)
   -- entries
   one-walk (all_entries same) no_entry no_entry m n = (refl, refl, refl)
   one-walk (all_entries same) no_entry (goes_on w v) m n = absurd (none≢some same)
   one-walk (all_entries same) no_entry (ends w) m n = absurd (none≢some same)
-  one-walk (all_entries same) no_entry in_want m n = absurd (n refl)
+  one-walk (all_entries same) no_entry alloc_fails m n = absurd (n refl)
   one-walk (all_entries same) (goes_on w v) no_entry m n = absurd (none≢some (sym same))
   one-walk (all_entries {p = p} same) (goes_on {ls = ls} {ms = ms} w v) (goes_on {xs = ys} {u = last} {ls = hs} {ms = rs} {o = q} x y) m n =
       let first = one-walk (one_entry (first-same same)) w x (λ e. cc) (λ e. cc) in
@@ -122,55 +122,55 @@ module _ {S : Type 0} (reads : S → Text → Result (String Global) Error → S
       (ap (λ z. z ++ ms) first.0 ∙ ap (λ z. hs ++ z) rest.0, rest.1, rest.2)
   one-walk (all_entries same) (goes_on w v) (ends x) m n =
       absurd (Ok≢Err _ _ refl refl (one-walk (one_entry (first-same same)) w x (λ e. cc) n).1)
-  one-walk (all_entries same) (goes_on w v) in_want m n = absurd (n refl)
+  one-walk (all_entries same) (goes_on w v) alloc_fails m n = absurd (n refl)
   one-walk (all_entries same) (ends w) no_entry m n = absurd (none≢some (sym same))
   one-walk (all_entries same) (ends w) (goes_on x y) m n =
       absurd (Ok≢Err _ _ refl refl (sym (one-walk (one_entry (first-same same)) w x m (λ e. cc)).1))
   one-walk (all_entries same) (ends w) (ends x) m n = one-walk (one_entry (first-same same)) w x m n
-  one-walk (all_entries same) (ends w) in_want m n = absurd (n refl)
-  one-walk (all_entries same) in_want w m n = absurd (m refl)
+  one-walk (all_entries same) (ends w) alloc_fails m n = absurd (n refl)
+  one-walk (all_entries same) alloc_fails w m n = absurd (m refl)
   -- an entry
   one-walk (one_entry {p = p} same) (takes g l) (takes h k) m n =
       let load = one-load reads one_read prevents l (load-at p (ap (λ v. v.0) same) k) (λ e. cc) (λ e. cc) in
       (loaded-same p (ap (λ v. v.0) same) (Ok-injective _ _ refl refl load.0), refl, load.1)
-  one-walk (one_entry {p = p} same) (takes g l) (refuses h k) m n =
+  one-walk (one_entry {p = p} same) (takes g l) (fails h k) m n =
       absurd (Ok≢Err _ _ refl refl (one-load reads one_read prevents l (load-at p (ap (λ v. v.0) same) k) (λ e. cc)
       (other-stop _ _ refl refl n)).0)
   one-walk (one_entry {p = p} same) (takes g l) (passes h) m n = absurd (taken≢passed p (ap (λ v. v.0) same) g h)
   one-walk (one_entry same) (takes g l) (enters d w) m n = absurd (file≢folder (ap (λ v. v.1) same))
   one-walk (one_entry same) (takes g l) (too_deep d) m n = absurd (file≢folder (ap (λ v. v.1) same))
-  one-walk (one_entry same) (takes g l) in_want m n = absurd (n refl)
-  one-walk (one_entry {p = p} same) (refuses g l) (takes h k) m n =
+  one-walk (one_entry same) (takes g l) alloc_fails m n = absurd (n refl)
+  one-walk (one_entry {p = p} same) (fails g l) (takes h k) m n =
       absurd (Ok≢Err _ _ refl refl (sym (one-load reads one_read prevents l (load-at p (ap (λ v. v.0) same) k)
       (other-stop _ _ refl refl m) (λ e. cc)).0))
-  one-walk (one_entry {p = p} same) (refuses g l) (refuses h k) m n =
+  one-walk (one_entry {p = p} same) (fails g l) (fails h k) m n =
       let load = one-load reads one_read prevents l (load-at p (ap (λ v. v.0) same) k) (other-stop _ _ refl refl m)
       (other-stop _ _ refl refl n) in
       (refl, same-stop _ _ refl refl load.0 _ _ refl refl, load.1)
-  one-walk (one_entry {p = p} same) (refuses g l) (passes h) m n = absurd (taken≢passed p (ap (λ v. v.0) same) g h)
-  one-walk (one_entry same) (refuses g l) (enters d w) m n = absurd (file≢folder (ap (λ v. v.1) same))
-  one-walk (one_entry same) (refuses g l) (too_deep d) m n = absurd (file≢folder (ap (λ v. v.1) same))
-  one-walk (one_entry same) (refuses g l) in_want m n = absurd (n refl)
+  one-walk (one_entry {p = p} same) (fails g l) (passes h) m n = absurd (taken≢passed p (ap (λ v. v.0) same) g h)
+  one-walk (one_entry same) (fails g l) (enters d w) m n = absurd (file≢folder (ap (λ v. v.1) same))
+  one-walk (one_entry same) (fails g l) (too_deep d) m n = absurd (file≢folder (ap (λ v. v.1) same))
+  one-walk (one_entry same) (fails g l) alloc_fails m n = absurd (n refl)
   one-walk (one_entry {p = p} same) (passes g) (takes h k) m n = absurd (taken≢passed p (sym (ap (λ v. v.0) same)) h g)
-  one-walk (one_entry {p = p} same) (passes g) (refuses h k) m n = absurd (taken≢passed p (sym (ap (λ v. v.0) same)) h g)
+  one-walk (one_entry {p = p} same) (passes g) (fails h k) m n = absurd (taken≢passed p (sym (ap (λ v. v.0) same)) h g)
   one-walk (one_entry same) (passes g) (passes h) m n = (refl, refl, refl)
   one-walk (one_entry same) (passes g) (enters d w) m n = absurd (file≢folder (ap (λ v. v.1) same))
   one-walk (one_entry same) (passes g) (too_deep d) m n = absurd (file≢folder (ap (λ v. v.1) same))
-  one-walk (one_entry same) (passes g) in_want m n = absurd (n refl)
+  one-walk (one_entry same) (passes g) alloc_fails m n = absurd (n refl)
   one-walk (one_entry same) (enters e v) (takes h k) m n = absurd (file≢folder (sym (ap (λ v. v.1) same)))
-  one-walk (one_entry same) (enters e v) (refuses h k) m n = absurd (file≢folder (sym (ap (λ v. v.1) same)))
+  one-walk (one_entry same) (enters e v) (fails h k) m n = absurd (file≢folder (sym (ap (λ v. v.1) same)))
   one-walk (one_entry same) (enters e v) (passes h) m n = absurd (file≢folder (sym (ap (λ v. v.1) same)))
   one-walk (one_entry {p = p} same) (enters e v) (enters d w) m n =
       one-walk (folders (folder-same p (ap (λ v. v.0) same) (fewer e d))) v w m n
   one-walk (one_entry same) (enters e v) (too_deep d) m n = absurd (deep≢level _ d e)
-  one-walk (one_entry same) (enters e v) in_want m n = absurd (n refl)
+  one-walk (one_entry same) (enters e v) alloc_fails m n = absurd (n refl)
   one-walk (one_entry same) (too_deep e) (takes h k) m n = absurd (file≢folder (sym (ap (λ v. v.1) same)))
-  one-walk (one_entry same) (too_deep e) (refuses h k) m n = absurd (file≢folder (sym (ap (λ v. v.1) same)))
+  one-walk (one_entry same) (too_deep e) (fails h k) m n = absurd (file≢folder (sym (ap (λ v. v.1) same)))
   one-walk (one_entry same) (too_deep e) (passes h) m n = absurd (file≢folder (sym (ap (λ v. v.1) same)))
   one-walk (one_entry same) (too_deep e) (enters d w) m n = absurd (deep≢level _ e d)
   one-walk (one_entry same) (too_deep e) (too_deep d) m n = (refl, refl, refl)
-  one-walk (one_entry same) (too_deep e) in_want m n = absurd (n refl)
-  one-walk (one_entry same) in_want w m n = absurd (m refl)
+  one-walk (one_entry same) (too_deep e) alloc_fails m n = absurd (n refl)
+  one-walk (one_entry same) alloc_fails w m n = absurd (m refl)
 
   pub walk-once : (k : Walkable) (s : S) → HasOneEnd (Walks reads lists prevents c k s)
   walk-once (a_folder p) s ls ms o q t u w v m n = one-walk (folders refl) w v m n

@@ -1,4 +1,4 @@
--- What is read of files in turn.
+-- What reading files in order gives.
 use Rattle.std.proofs.Common.{◌≡◌, ◌≢◌, Bool, true, false, cond, not, map, List, [], ◌∷◌, ◌++◌, Option, Some, None, Result, Ok, Err, String, Global, refl, sym, ap, ◌∙◌, subst, append-nil, append_assoc}
 use Rattle.std.specs.BTreeMap.{BTreeMap}
 use Rattle.std.specs.Prelude.{IfErr, OnOk, is_some, string_bytes}
@@ -13,13 +13,14 @@ use Rattle.handlebars_base.specs.declared.error.render_error.RenderErrorReason.T
 use Rattle.handlebars_base.specs.declared.error.template_error.TemplateError.{TemplateError}
 use Rattle.handlebars_template.specs.Tree.{Tree}
 use Rattle.handlebars_template.specs.declared.template.tree.Template.{Template}
-use Rattle.handlebars.specs.Dev.{FailsReading, FailsRendering, HoldsTrees, ReadsFiles, ReadsInto, no_file, loads, fails, in_want, is_asked, others}
-use Rattle.handlebars.specs.Files.{IsStopFor, Loaded, LoadsFile, Stop, TellsStop, file_of, no_memory, not_read, path_in, refusal, tree_among, tree_in, unread}
-use Rattle.handlebars.proofs.Loaded.{last_under-append, put-laid}
-use Rattle.handlebars.proofs.Loads.{loads-in_want}
+use Rattle.handlebars.specs.Dev.{FailsReading, FailsRendering, HoldsTrees, ReadsFiles, ReadsInto, no_file, loads, fails, alloc_fails, is_asked, others}
+use Rattle.handlebars.specs.Files.{IsStopFor, Loaded, LoadsFile, Stop, ReportsStop, file_of, no_memory, not_read, source_path, refusal, tree_among, tree_in, unreadable_file}
+use Rattle.handlebars.proofs.Loaded.{last_under-append, put-overlaid}
+use Rattle.handlebars.proofs.Loads.{loads-alloc_fails}
 
 module _ {S : Type 0} (reads : S → Text → Result (String Global) Error → S → Type 0) (prevents : Bool) where
-  -- Some of the files are read and compiled in turn, and put into a map; what comes of the rest comes, behind them, of all.
+  -- Some of the files are read and compiled in order, and put into a map. The outcome of the rest after them is the outcome
+  -- of all.
   pub record HasReadSome (fs rest : List (Text × Text)) (before after : S) (old new : BTreeMap (String Global) Template) : Type 0 where
     pub read : List Loaded
     pub holds : (ls : List Loaded) → HoldsTrees ls old → HoldsTrees (ls ++ read) new
@@ -33,7 +34,7 @@ module _ {S : Type 0} (reads : S → Text → Result (String Global) Error → S
   reads-then same no_file w = w
   reads-then same (loads l r) w = loads l (reads-then same r w)
   reads-then same (fails l) w = cc
-  reads-then same in_want w = cc
+  reads-then same alloc_fails w = cc
 
   reads-first : {fs : List (Text × Text)} {s t : S} {ls : List Loaded} {o : Result (Unit {0}) Stop} {why : Stop}
       (gs : List (Text × Text)) → o ≡ Err why → ReadsFiles reads prevents fs s ls o t
@@ -41,7 +42,7 @@ module _ {S : Type 0} (reads : S → Text → Result (String Global) Error → S
   reads-first gs same no_file = cc
   reads-first gs same (loads l r) = loads l (reads-first gs same r)
   reads-first gs same (fails l) = fails l
-  reads-first gs same in_want = in_want
+  reads-first gs same alloc_fails = alloc_fails
 
   pub into-nothing : (s : S) (a : BTreeMap (String Global) Template) → ReadsInto reads prevents [] s s a a
   into-nothing s a = record {
@@ -83,7 +84,7 @@ module _ {S : Type 0} (reads : S → Text → Result (String Global) Error → S
         read = one ∷ [];
         reads_all = loads l no_file;
         holds = λ ls h n. put n ∙ ap (cond (bytes_eq name n) (Some made)) (h n)
-            ∙ put-laid (bytes_eq name n) made (tree_among ls n) ∙ sym (last_under-append (λ x. x.tree) ls (one ∷ []) n);
+            ∙ put-overlaid (bytes_eq name n) made (tree_among ls n) ∙ sym (last_under-append (λ x. x.tree) ls (one ∷ []) n);
       }
 
   pub fails-one : (name path : Text) {s t : S} (e : TemplateError)
@@ -91,11 +92,11 @@ module _ {S : Type 0} (reads : S → Text → Result (String Global) Error → S
       → FailsReading reads prevents ((name, path) ∷ []) s t e
   fails-one name path e f = record { read = []; why = f.0; reads_up_to = fails f.2; stop = f.1 }
 
-  pub fails-behind : (name path : Text) {s t : S} (e : TemplateError) (o : Result Tree Stop)
+  pub fails-after : (name path : Text) {s t : S} (e : TemplateError) (o : Result Tree Stop)
       → (template_refusal_of e).reason ≡ template_out_of_memory → LoadsFile reads prevents name path s o t
       → FailsReading reads prevents ((name, path) ∷ []) s t e
-  fails-behind name path {s = s} {t = t} e o m l =
-      fails-one name path e (no_memory, m, loads-in_want reads prevents name path s t o l)
+  fails-after name path {s = s} {t = t} e o m l =
+      fails-one name path e (no_memory, m, loads-alloc_fails reads prevents name path s t o l)
 
   -- ---- file after file
 
@@ -205,10 +206,10 @@ module _ {S : Type 0} (reads : S → Text → Result (String Global) Error → S
 
 -- ---- without dev mode
 
-pub path_in-off : (paths : Option (BTreeMap (String Global) (String Global))) (name path : Text) → is_some paths ≡ false
-    → Some path ≡ path_in paths name → ⊥
-path_in-off None name path off there = cc
-path_in-off (Some m) name path off there = cc
+pub source_path-off : (paths : Option (BTreeMap (String Global) (String Global))) (name path : Text) → is_some paths ≡ false
+    → Some path ≡ source_path paths name → ⊥
+source_path-off None name path off there = cc
+source_path-off (Some m) name path off there = cc
 
 -- ---- the error of a rendering
 
@@ -217,18 +218,18 @@ template_error≢out_of_memory e = cc
 
 module _ (e : TemplateError) (d : RenderError) (is : refusal_of d ≡ plain_refusal (of_template (template_refusal_of e)))
     (cause : reason_in d ≢ out_of_memory → cause_of d ≡ reasons.TemplateError e) where
-  tells-stop : (why : Stop) → IsStopFor e why → TellsStop why d
-  tells-stop (refusal f) stop = is ∙ ap (λ z. plain_refusal (of_template z)) stop
-  tells-stop (not_read name kind) stop =
-      let so : refusal_of d ≡ plain_refusal (of_template (unread name)) = is ∙ ap (λ z. plain_refusal (of_template z)) stop.0 in
-      let kept : cause_of d ≡ reasons.TemplateError e =
+  reports-stop : (why : Stop) → IsStopFor e why → ReportsStop why d
+  reports-stop (refusal f) stop = is ∙ ap (λ z. plain_refusal (of_template z)) stop
+  reports-stop (not_read name kind) stop =
+      let so : refusal_of d ≡ plain_refusal (of_template (unreadable_file name)) = is ∙ ap (λ z. plain_refusal (of_template z)) stop.0 in
+      let unchanged : cause_of d ≡ reasons.TemplateError e =
       cause (λ memory. template_error≢out_of_memory (ap (λ (z : Refusal). z.reason) (sym so) ∙ memory)) in
-      (so, (e, kept, stop.1))
-  tells-stop no_memory stop =
+      (so, (e, unchanged, stop.1))
+  reports-stop no_memory stop =
       ap (λ (z : Refusal). z.reason) is ∙ ap (λ (z : TemplateReason). reason_for (template_refusal_of e) z) stop
 
   pub fails-rendering : {S : Type 0} (reads : S → Text → Result (String Global) Error → S → Type 0) {prevents : Bool}
       {fs : List (Text × Text)} {before after : S} → FailsReading reads prevents fs before after e
       → FailsRendering reads prevents fs before after d
   fails-rendering reads x =
-      record { read = x.read; why = x.why; reads_up_to = x.reads_up_to; stop = tells-stop x.why x.stop }
+      record { read = x.read; why = x.why; reads_up_to = x.reads_up_to; stop = reports-stop x.why x.stop }

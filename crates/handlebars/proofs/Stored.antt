@@ -1,4 +1,4 @@
--- What stands under a name behind a registration.
+-- What is registered under a name after a registration.
 use Rattle.std.proofs.Common.{◌≡◌, Bool, true, false, cond, Option, None, Some, option_map, refl, ap, ◌∙◌, String, Global}
 use Rattle.std.specs.Cmp.Lexicographic.{slice_cmp}
 use Rattle.std.specs.Ordering.{nat_cmp}

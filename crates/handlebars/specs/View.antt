@@ -3,17 +3,17 @@ use Rattle.std.specs.BTreeMap.{get_by_text}
 use Rattle.std.specs.Prelude.{ℕ, Bool, true, Option, None, Some, option_map}
 use Rattle.serde_json.specs.Data.{Data}
 use Rattle.handlebars_base.specs.Bytes.{Text}
-use Rattle.handlebars_tags.specs.Options.{Options}
+use Rattle.handlebars_lexer.specs.Options.{Options}
 use Rattle.handlebars_template.specs.Tree.{Tree}
 use Rattle.handlebars_template.specs.TreeView.{tree_view}
 use Rattle.handlebars_scope.specs.Contexts.{data_of}
 use Rattle.handlebars_scope.specs.declared.context.Context.{Context}
-use Rattle.handlebars_helpers.specs.OwnAnswers.{OwnAnswers, Registrations}
-use Rattle.handlebars_meaning.specs.State.{Parts, Setting}
+use Rattle.handlebars_helpers.specs.UserAnswers.{UserAnswers, Registrations}
+use Rattle.handlebars_semantics.specs.State.{Parts, Setting}
 use Rattle.handlebars.specs.declared.registry.RegistryOf.{RegistryOf}
 
--- the modes of a registry: whether it is strict, whether lookup is recursive, whether inclusions add no indentation, and
--- how many of them may be rendered one within another
+-- The modes of a registry: whether it is strict, whether lookup is recursive, whether partials add no indentation, and how
+-- many partials may be nested.
 pub record Modes : Type 0 where
   pub strict : Bool
   pub recursive : Bool
@@ -21,8 +21,8 @@ pub record Modes : Type 0 where
   pub limit : ℕ
 
 -- how sources of this name are compiled
-abbrev pub named_options : Bool → Text → Options
-named_options prevent_indent name = record { name = Some name; prevent_indent = prevent_indent; sections = true }
+abbrev pub registered_options : Bool → Text → Options
+registered_options prevent_indent name = record { name = Some name; prevent_indent = prevent_indent; sections = true }
 
 module _ {E : Type 0} where
   abbrev pub modes_of : RegistryOf E → Modes
@@ -41,16 +41,16 @@ module _ {E : Type 0} where
   abbrev pub options_of : RegistryOf E → Options
   options_of r = record { name = None; prevent_indent = r.prevent_indent; sections = true }
 
-  -- What a run reads, by what stands under the names of a registry's entries and what those of one's own answer.
-  module _ (registered : E → Registrations) (own : E → OwnAnswers) where
+  -- What a run reads: what is registered under the names of a registry's entries, and what user-defined parts answer.
+  module _ (registered : E → Registrations) (user : E → UserAnswers) where
     abbrev pub parts_of : RegistryOf E → Parts
     parts_of r = record {
       helper = (registered r.entries).helper;
-      own = (own r.entries).helper;
+      user = (user r.entries).helper;
       decorator = (registered r.entries).decorator;
-      own_decorator = (own r.entries).decorator;
+      user_decorator = (user r.entries).decorator;
       escape = (registered r.entries).escape;
-      own_escape = (own r.entries).escape;
+      user_escape = (user r.entries).escape;
       strict = r.strict_mode;
       recursive = r.recursive_lookup;
       sections = true;

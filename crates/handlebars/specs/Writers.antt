@@ -1,4 +1,4 @@
--- What outputs to a writer hold, and what a writer keeps that is made for it.
+-- What outputs to a writer hold, and what the writer of a text stores.
 use Rattle.std.specs.Prelude.{◌≡◌, ℕ, ◌++◌, [], take, cond, Option, Result, Ok, Err}
 use Rattle.std.specs.Io.KnownBytes.{Appends}
 use Rattle.std.specs.Str.{is_utf8}
@@ -15,22 +15,22 @@ taken_of bytes (Ok n) = take n bytes
 taken_of bytes (Err e) = []
 
 module _ {W : Type 0} where
-  -- An output holds what its writer has taken of it, and counts its faults.
+  -- An output holds what its writer has taken of it, and counts its write errors.
   abbrev pub held_by : WriteOutput W → Held
-  held_by o = record { text = o.taken.text; faults = o.faults }
+  held_by o = record { text = o.taken.text; write_errors = o.write_errors }
 
--- A writer has taken a text behind another, and tells it where it told what it held before.
+-- A writer has taken a text after another, and reports it if it reported what it held before.
 pub record TakesText (t : Text) (before : Option Text) (taken : Text) (after : Option Text) (now : Text) : Type 0 where
   pub text : now ≡ taken ++ t
-  pub told : Appends before after t
+  pub reported : Appends before after t
 
-abbrev pub held_in : {W K : Type 0} {w : _} {k : _} → NamedOutput W K w k → Held
-held_in o = record { text = o.taken.text; faults = o.faults }
+abbrev pub held_by_output : {W K : Type 0} {w : _} {k : _} → NamedOutput W K w k → Held
+held_by_output o = record { text = o.taken.text; write_errors = o.write_errors }
 
--- what a writer of a text keeps
+-- the bytes that a writer of a text stores
 abbrev pub bytes_in : StringWriter → Text
 bytes_in w = w.bytes.items
 
--- bytes that are UTF-8, and of others nothing
-abbrev pub text_of : Text → Text
-text_of bytes = cond (is_utf8 bytes) bytes []
+-- the bytes, if they are UTF-8, and otherwise none
+abbrev pub utf8_or_empty : Text → Text
+utf8_or_empty bytes = cond (is_utf8 bytes) bytes []

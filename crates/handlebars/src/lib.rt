@@ -1,5 +1,6 @@
-//! Templates over JSON data, with scoping that is predictable and data that never becomes markup unless the template
-//! says so: each render call writes exactly the text that the language's definition gives, or refuses for its reason.
+//! Templates over JSON data. Scoping is predictable, and data never becomes markup unless the template says so. Each
+//! render call writes exactly the text that the language's definition gives, or fails with the error that the
+//! definition gives.
 //!
 //! ```
 //! let registry = Handlebars::new(alloc)?;
@@ -27,23 +28,23 @@ pub use handlebars_base::support::{escape_html, html_escape, no_escape};
 pub use handlebars_helpers::built_in::BuiltIn;
 pub use handlebars_helpers::decorators::def::DecoratorDef;
 pub use handlebars_helpers::decorators::entry::{DecoratorEntry, DecoratorEntryOf, DecoratorPart};
-pub use handlebars_helpers::decorators::function::{DecoratorFn, FnDecorator, FnDeeds};
+pub use handlebars_helpers::decorators::function::{DecoratorFn, FnActions, FnDecorator};
 pub use handlebars_helpers::decorators::view::Decorator;
 pub use handlebars_helpers::decorators::{DecoratorResult, DecoratorStep};
-pub use handlebars_helpers::entries::{BoxedEntries, Entries, OwnParts};
+pub use handlebars_helpers::entries::{BoxedEntries, Entries, UserParts};
 pub use handlebars_helpers::escape::def::EscapeFn;
 pub use handlebars_helpers::escape::{EscapeKind, EscapeKindOf, EscapePart};
 pub use handlebars_helpers::log_line::log_record;
-pub use handlebars_helpers::own::def::HelperDef;
-pub use handlebars_helpers::own::entry::{HelperEntry, HelperEntryOf, HelperPart};
-pub use handlebars_helpers::own::function::{FnHelper, FnSteps, HelperFn};
-pub use handlebars_helpers::own::{HelperResult, HelperStep, HelperValue, LocalHelper};
 pub use handlebars_helpers::refusal::FnRefusal;
+pub use handlebars_helpers::user::def::HelperDef;
+pub use handlebars_helpers::user::entry::{HelperEntry, HelperEntryOf, HelperPart};
+pub use handlebars_helpers::user::function::{FnHelper, FnSteps, HelperFn};
+pub use handlebars_helpers::user::{HelperResult, HelperStep, HelperValue, LocalHelper};
 pub use handlebars_helpers::view::Helper;
 pub use handlebars_markup::fault::{MarkupFault, MarkupFaultReason};
 pub use handlebars_render::context::RenderContext;
-pub use handlebars_render::heard::Heard;
-pub use handlebars_render::pieces::{Origin, PieceKind, PieceOutput, Spot, Standing};
+pub use handlebars_render::pieces::{Location, Origin, PieceKind, PieceOutput, TemplateReference};
+pub use handlebars_render::trace::Trace;
 pub use handlebars_render::write::indent_aware_write;
 pub use handlebars_scope::block::{BlockContext, BlockParamHolder, BlockParams};
 pub use handlebars_scope::context::full_path::FullPath;

@@ -17,28 +17,28 @@ use std::io;
 use std::io::{ErrorKind, Write};
 pub use string_writer::StringWriter;
 
-/// Writes to a writer, in as many writes of it as a segment needs. A write that takes nothing is a fault, `WriteZero`,
-/// and so is one that is interrupted; behind a fault nothing more of its segment is written.
+/// An output that writes to a writer, in as many writes as a segment needs. A write that takes nothing is a write
+/// error, `WriteZero`, and so is one that is interrupted. After a write error no more of the segment is written.
 #[derive(Drop)]
 pub struct WriteOutput<'w, W> {
     pub(crate) writer: &'w mut W,
     pub(crate) taken: Taken,
-    pub(crate) faults: u64,
+    pub(crate) write_errors: u64,
 }
 
 impl<'w, W: Write> WriteOutput<'w, W> {
-    /// Has taken nothing yet; this takes no memory.
+    /// Creates an output that has taken nothing yet. Doesn't allocate.
     pub fn new(writer: &'w mut W) -> WriteOutput<'w, W>
         ensures held { held_by result ≡ empty_output }
 
-        // A ghost name tells one borrow from all others: it is this writer to which the output writes.
+        // A ghost name distinguishes one borrow from all others: the output writes to this writer.
         ensures same { result.writer.ghost_name ≡ writer.entry.ghost_name }
         ensures writer { result.writer.now ≡ writer.old }
     {
         WriteOutput {
             writer,
             taken: Taken::nothing(),
-            faults: 0,
+            write_errors: 0,
         }
     }
 }
@@ -50,7 +50,7 @@ impl<W: Write> Output for WriteOutput<'_, W> {
         ensures written { Written seg.now (held_by self.old) result (held_by self.new) }
         ensures given { IfErr result (λ _. Unit {0}) }
 
-        // What is taken is behind what the writer told that it holds, where it tells that.
+        // What is taken comes after what the writer reported that it holds, if it reports that.
         ensures takes { (t : Text) × TakesText t (W.contents self.old.writer.now) self.old.taken.text
             (W.contents self.new.writer.now) self.new.taken.text }
         ensures same { self.new.writer.ghost_name ≡ self.old.writer.ghost_name }
@@ -58,21 +58,21 @@ impl<W: Write> Output for WriteOutput<'_, W> {
         match put_all(self.writer, &mut self.taken, seg.as_bytes()) {
             Ok(()) => Ok(()),
             Err(cause) => {
-                self.faults = self.faults.saturating_add(1);
+                self.write_errors = self.write_errors.saturating_add(1);
                 Err(cause)
             }
         }
     }
 }
 
-// In as many writes as the writer needs. A write that takes nothing is a fault, and behind a fault there is no other.
-// What is inlined is the first, which takes all for the most part.
+// In as many writes as the writer needs. A write that takes nothing is a write error, and after a write error there is
+// no other write. Only the first write is inlined: it takes everything for the most part.
 #[inline(always)]
 fn put_all<W: Write>(writer: &mut W, taken: &mut Taken, bytes: &[u8]) -> io::Result<()>
     ensures ok { OnOk result (TakesText bytes.now (W.contents writer.old) taken.old.text
         (W.contents writer.new) taken.new.text) }
-    ensures err { OnErr result ((front : Text) × IsPrefix front bytes.now
-        × TakesText front (W.contents writer.old) taken.old.text (W.contents writer.new) taken.new.text) }
+    ensures err { OnErr result ((prefix : Text) × IsPrefix prefix bytes.now
+        × TakesText prefix (W.contents writer.old) taken.old.text (W.contents writer.new) taken.new.text) }
     ensures some { OnErr result (0 < length bytes.now) }
 {
     if bytes.is_empty() {
@@ -92,8 +92,8 @@ fn put_all<W: Write>(writer: &mut W, taken: &mut Taken, bytes: &[u8]) -> io::Res
 fn put_rest<W: Write>(writer: &mut W, taken: &mut Taken, bytes: &[u8]) -> io::Result<()>
     ensures ok { OnOk result (TakesText bytes.now (W.contents writer.old) taken.old.text
         (W.contents writer.new) taken.new.text) }
-    ensures err { OnErr result ((front : Text) × IsPrefix front bytes.now
-        × TakesText front (W.contents writer.old) taken.old.text (W.contents writer.new) taken.new.text) }
+    ensures err { OnErr result ((prefix : Text) × IsPrefix prefix bytes.now
+        × TakesText prefix (W.contents writer.old) taken.old.text (W.contents writer.new) taken.new.text) }
     ensures some { OnErr result (0 < length bytes.now) }
 {
     let mut rest = bytes;
@@ -107,7 +107,7 @@ fn put_rest<W: Write>(writer: &mut W, taken: &mut Taken, bytes: &[u8]) -> io::Re
     Ok(())
 }
 
-// One write, of which it is noted what it takes.
+// One write, which records what the writer takes.
 #[inline(always)]
 fn put<W: Write>(writer: &mut W, taken: &mut Taken, bytes: &[u8]) -> io::Result<usize>
     ensures bound { WritesAtMost result bytes.now }

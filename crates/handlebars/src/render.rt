@@ -1,15 +1,15 @@
-//! Rendering with a registry: carrying out what a template means.
+//! Rendering with a registry: executing what a template means.
 
 ghost use Rattle.std.specs.Prelude.{◌≡◌, ◌≢◌, IfOk, IfErr, IsErrAnd, OnErr, OnOk, string_bytes, true, false};
 ghost use Rattle.handlebars_base.specs.Reasons.{out_of_memory, failed};
 ghost use Rattle.handlebars_base.specs.RenderRefusals.{refusal_of, plain_refusal, reason_in};
 ghost use Rattle.handlebars_template.specs.TreeView.{tree_view, element_view};
-ghost use Rattle.handlebars_meaning.specs.Steps.{Steps};
-ghost use Rattle.handlebars_meaning.specs.Means.{render_tree, render_alone};
+ghost use Rattle.handlebars_semantics.specs.Steps.{Steps};
+ghost use Rattle.handlebars_semantics.specs.Means.{render_tree, render_alone};
 ghost use Rattle.handlebars_expand.specs.View.{state_of, root_of, has_failed};
 ghost use Rattle.handlebars_render.specs.View.{first_moment};
 ghost use Rattle.handlebars_expand.specs.View.{without_partials};
-ghost use Rattle.handlebars_render.specs.View.{CarriesOut, GivesString, RefusesString};
+ghost use Rattle.handlebars_render.specs.View.{RefinesSteps, GivesString, StringFails};
 ghost use Rattle.handlebars.specs.View.{setting_of};
 
 mod evaluable;
@@ -25,12 +25,12 @@ pub use evaluable::Evaluable;
 pub use expand::Expand;
 use handlebars_base::error::RenderError;
 use handlebars_base::output::{Output, StringOutput};
-use handlebars_helpers::entries::OwnParts;
+use handlebars_helpers::entries::UserParts;
 use handlebars_render::context::RenderContext;
 use handlebars_render::entry::render_element_into;
 use handlebars_render::environment::outside;
 use handlebars_render::failure::{fail_after, ready};
-use handlebars_render::pieces::Spot;
+use handlebars_render::pieces::Location;
 use handlebars_scope::context::Context;
 use handlebars_scope::context::bases::Bases;
 use handlebars_template::template::{Template, TemplateElement};
@@ -39,13 +39,17 @@ use std::alloc::Global;
 
 /// What can be rendered.
 pub trait Renderable {
-    // What it means, step by step.
+    // The steps of rendering it.
     ghost steps: { Self → Steps };
 
-    /// Renders over the data into an output. After a refusal the render context has failed: it
-    /// answers `Failed` from then on, and nothing more is written. Nothing is said of its line and of
-    /// its current template then.
-    fn render<E: OwnParts, L: Log, O: Output>(
+    /// Renders over the data into an output.
+    ///
+    /// # Errors
+    ///
+    /// Fails with the error that the definition gives, with a write error of the output, or when memory runs out. The
+    /// render context has failed then: later calls with it fail with `Failed` and write nothing. Its line and its
+    /// current template are unspecified then.
+    fn render<E: UserParts, L: Log, O: Output>(
         &self,
         alloc: Global,
         registry: &RegistryOf<E>,
@@ -55,7 +59,7 @@ pub trait Renderable {
         log: &L,
     ) -> Result<(), RenderError>
         ensures renders { has_failed rc.old ≡ false
-            → CarriesOut (setting_of E.registered E.own registry.now «data».now) (steps self.now)
+            → RefinesSteps (setting_of E.registered E.user registry.now «data».now) (steps self.now)
             O.may_give (first_moment rc.old (O.held out.old)) result (first_moment rc.new (O.held out.new)) }
         ensures failed { has_failed rc.old ≡ true → IsErrAnd result (λ e. refusal_of e ≡ plain_refusal failed)
             × (rc.new ≡ rc.old) × (O.held out.new ≡ O.held out.old) }
@@ -66,8 +70,12 @@ pub trait Renderable {
         ensures ok { OnOk result (has_failed rc.new ≡ false) }
         ensures err { OnErr result (has_failed rc.new ≡ true) };
 
-    /// Renders over the data into a text.
-    fn renders<E: OwnParts, L: Log>(
+    /// Renders over the data and returns the text.
+    ///
+    /// # Errors
+    ///
+    /// Fails as `render` does, except that no write fails.
+    fn renders<E: UserParts, L: Log>(
         &self,
         alloc: Global,
         registry: &RegistryOf<E>,
@@ -76,10 +84,10 @@ pub trait Renderable {
         log: &L,
     ) -> Result<String, RenderError>
         ensures ok { IfOk result (λ text. (has_failed rc.old ≡ false)
-            × GivesString (setting_of E.registered E.own registry.now «data».now) (steps self.now)
+            × GivesString (setting_of E.registered E.user registry.now «data».now) (steps self.now)
             (state_of rc.old) (state_of rc.new) (string_bytes text)) }
         ensures err { IfErr result (λ e. has_failed rc.old ≡ false → reason_in e ≢ out_of_memory
-            → RefusesString (setting_of E.registered E.own registry.now «data».now) (steps self.now) (state_of rc.old)
+            → StringFails (setting_of E.registered E.user registry.now «data».now) (steps self.now) (state_of rc.old)
             (refusal_of e)) }
         ensures failed { has_failed rc.old ≡ true
             → IsErrAnd result (λ e. refusal_of e ≡ plain_refusal failed) × (rc.new ≡ rc.old) }
@@ -87,7 +95,7 @@ pub trait Renderable {
         ensures blocks { without_partials (state_of rc.new).blocks ≡ without_partials (state_of rc.old).blocks }
         ensures recursive { (state_of rc.new).recursive ≡ (state_of rc.old).recursive }
         ensures escapes { (state_of rc.new).escapes ≡ (state_of rc.old).escapes }
-        ensures kept { OnOk result (has_failed rc.new ≡ false) }
+        ensures unchanged { OnOk result (has_failed rc.new ≡ false) }
         ensures fails { OnErr result (has_failed rc.new ≡ true) }
     {
         let mut out = StringOutput::new(alloc);
@@ -101,7 +109,7 @@ pub trait Renderable {
 impl Renderable for Template {
     ghost steps = { λ t. render_tree (tree_view t) };
 
-    fn render<E: OwnParts, L: Log, O: Output>(
+    fn render<E: UserParts, L: Log, O: Output>(
         &self,
         alloc: Global,
         registry: &RegistryOf<E>,
@@ -114,11 +122,12 @@ impl Renderable for Template {
     }
 }
 
-/// An element alone, which has no position to give: an error has what it brings itself, as one from a body of the element.
+/// An element alone has no position of its own: an error has the position that it comes with, as one from a body of the
+/// element has.
 impl Renderable for TemplateElement {
     ghost steps = { λ e. render_alone (element_view e) };
 
-    fn render<E: OwnParts, L: Log, O: Output>(
+    fn render<E: UserParts, L: Log, O: Output>(
         &self,
         alloc: Global,
         registry: &RegistryOf<E>,
@@ -133,8 +142,8 @@ impl Renderable for TemplateElement {
             read: &NoTrees,
             log,
         };
-        let spot = Spot::first();
-        let environment = outside(alloc, parts, data, &Bases::Outside, &spot);
+        let location = Location::first();
+        let environment = outside(alloc, parts, data, &Bases::Outside, &location);
         match render_element_into(self, &environment, rc, out) {
             Ok(()) => Ok(()),
             Err(e) => fail_after(rc, Err(e.into_error())),

@@ -14,32 +14,31 @@ pub use options::DirectorySourceOptions;
 use std::io;
 use std::io::ErrorKind;
 
-/// What stands under a name in a folder.
+/// What an entry of a folder is.
 #[derive(Clone, Copy, Debug, PartialEq, Eq)]
 pub enum EntryKind {
     File,
     Folder,
 }
 
-/// Gives the texts of templates by path, and what is in a folder. Paths are UTF-8 text, their parts
-/// joined by `/`.
+/// Reads the texts of templates by path, and lists folders. Paths are UTF-8 text, their parts joined by `/`.
 pub trait TemplateReader {
-    // From this state the reader may answer a read of this path so, and is in that state then.
+    // From this state a read of this path may return this result, and leave the reader in that state.
     ghost reads: { Self → List ℕ → Result (String Global) Error → Self → Type 0 };
 
-    // From this state the reader may answer so what is in this folder, and is in that state then.
+    // From this state a listing of this folder may return this result, and leave the reader in that state.
     ghost lists: { Self → List ℕ → Result (Vec (String Global × EntryKind)) Error → Self → Type 0 };
 
-    /// The text of a file.
+    /// Reads the text of a file.
     fn read(&mut self, path: &str) -> Result<String, io::Error>
         ensures { reads self.old path.now result self.new };
 
-    /// The entries of a folder, with their names.
+    /// Lists the entries of a folder, with their names.
     fn list(&mut self, folder: &str) -> Result<Vec<(String, EntryKind)>, io::Error>
         ensures { lists self.old folder.now result self.new };
 }
 
-/// Has no file: for renderings that read none. Asked all the same, it answers `NotFound`.
+/// A reader without files, for renderings that read none. Every call fails with `NotFound`.
 #[derive(Drop)]
 pub struct NoFiles;
 

@@ -4,7 +4,7 @@ use Rattle.std.specs.Prelude.{◌==◌}
 use Rattle.std.proofs.lemmas.Bool.{or_cases, or_parts, leb-false, eqb-true, ne_eqb, cases_Bool, both_ways}
 use Rattle.handlebars_base.specs.Bytes.{is_white, is_symbol}
 
--- a byte of a kind is none that is not of it
+-- a byte of a kind differs from a byte that isn't of the kind
 pub other_byte : (p : ℕ → Bool) (c : ℕ) → p c ≡ false → (b : ℕ) → p b ≡ true → (b == c) ≡ false
 other_byte p c never b is = ne_eqb b c (λ e. let same : p b ≡ p c = ap p e in absurd cc)
 
@@ -20,7 +20,7 @@ is_white-ascii b h = elim (or_cases (b == 32) _ h) [
   ]
 ]
 
--- what is no symbol is ASCII
+-- a byte that isn't a symbol is ASCII
 pub no_symbol_ascii : (b : ℕ) → is_symbol b ≡ false → b < 128
 no_symbol_ascii b h = leb-false 128 b (or_parts _ _ h).0
 

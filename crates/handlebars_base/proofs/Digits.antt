@@ -1,4 +1,4 @@
--- What `parse` reads is numerals of decimal digits.
+-- `parse` reads numerals of decimal digits.
 use Rattle.std.proofs.Common.{◌≡◌, true}
 use Rattle.std.proofs.lemmas.Str.Parse.{numerals_by_value, tells_all_ascii_digits, IsNumeralModel}
 use Rattle.std.specs.Str.{all_ascii_digits}

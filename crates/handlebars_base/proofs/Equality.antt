@@ -1,4 +1,4 @@
--- Equal values are one value, numbers outside the range aside.
+-- Equal values are the same value, apart from numbers outside the range.
 use Rattle.std.proofs.Common.{◌≡◌, ℤ, pos, negsuc, Bool, true, false, ◌&&◌, Option, Some, None, refl, sym, ap, ap₂, ◌∙◌}
 use Rattle.std.proofs.lemmas.Bool.{false≢true}
 use Rattle.std.proofs.lemmas.Bool.Decides.{Decides-int_eq}
@@ -57,9 +57,9 @@ range-is_null (string s) h = cc
 range-is_null (array ds) h = cc
 range-is_null (object ms) h = cc
 
--- what stands in the place of a number
-abbrev in_place : Option ℤ → Data
-in_place o = with_or o (λ z. number (of_integer z)) null
+-- what replaces a number: the number itself if it is in the range, otherwise null
+abbrev number_or_null : Option ℤ → Data
+number_or_null o = with_or o (λ z. number (of_integer z)) null
 
 integer_in-of_integer : (z : ℤ) → integer_in (number (of_integer z)) ≡ Some z
 integer_in-of_integer (pos n) = refl
@@ -73,14 +73,14 @@ of_integer-one : (x y : ℤ) → number (of_integer x) ≡ number (of_integer y)
 unfolding integer_or
 of_integer-one x y e = ap (integer_or x) (sym (integer_in-of_integer x) ∙ ap integer_in e ∙ integer_in-of_integer y)
 
-number_equals-range : (o : Option ℤ) (e : Data) → number_equals o e ≡ true → in_place o ≡ in_range e
+number_equals-range : (o : Option ℤ) (e : Data) → number_equals o e ≡ true → number_or_null o ≡ in_range e
 number_equals-range None e h = is_null-range e h
 number_equals-range (Some x) (number (unsigned n)) h = ap (λ y. number (of_integer y)) (int_eq-is x (pos n) h)
 number_equals-range (Some x) (number (negative z)) h = ap (λ y. number (of_integer y)) (int_eq-is x z h)
 number_equals-range (Some x) (number (float f)) h = absurd (false≢true h)
 number_equals-range (Some x) _ h = absurd (false≢true h)
 
-range-number_equals : (o : Option ℤ) (e : Data) → in_place o ≡ in_range e → number_equals o e ≡ true
+range-number_equals : (o : Option ℤ) (e : Data) → number_or_null o ≡ in_range e → number_equals o e ≡ true
 range-number_equals None e h = range-is_null e h
 range-number_equals (Some x) null h = cc
 range-number_equals (Some x) (boolean b) h = cc
@@ -91,7 +91,7 @@ range-number_equals (Some x) (string s) h = cc
 range-number_equals (Some x) (array ds) h = cc
 range-number_equals (Some x) (object ms) h = cc
 
--- ---- equal values are one in the range
+-- ---- equal values are the same in the range
 
 mutual
   equals-range : (d e : Data) → equals d e ≡ true → in_range d ≡ in_range e
@@ -126,7 +126,7 @@ mutual
       let rest = members_equal-range ms ns values.1 in
       cc
 
--- ---- values that are one in the range are equal
+-- ---- values that are the same in the range are equal
 
 mutual
   range-equals : (d e : Data) → in_range d ≡ in_range e → equals d e ≡ true

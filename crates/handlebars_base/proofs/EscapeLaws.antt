@@ -8,15 +8,15 @@ use Rattle.handlebars_base.specs.EscapeLaws.{IsInjective, marks, IsUnmarked, Beg
 use Rattle.handlebars_base.proofs.EscapedBytes.{IsOther, by_bytes, escaped_byte-other}
 use Rattle.handlebars_base.specs.Bytes.{Text}
 
--- ---- a decoder: what stands first in an escaped text, and what follows it
+-- ---- a decoder: the first byte that an escaped text represents, and what follows
 
--- the byte that an entity stands for, by the first and the third byte after its `&`
+-- the byte of an entity, by the first and the third byte after its `&`
 named : ℕ → ℕ → ℕ
 named x y =
     if x == 108 then 60 else (if x == 103 then 62 else (if x == 113 then 34 else (if x == 97 then 38 else (
     if y == 50 then 39 else (if y == 54 then 96 else 61)))))
 
--- how many bytes of it follow the `&`
+-- how many bytes of the entity follow the `&`
 len_of : ℕ → ℕ
 len_of x = if x == 108 then 3 else (if x == 103 then 3 else (if x == 97 then 4 else 5))
 
@@ -118,42 +118,42 @@ escaped_is_unmarked xs mark is there =
 abbrev NoAmpersand : Text → Type 0
 NoAmpersand = AllByRecursion (λ b. b ≢ 38)
 
--- an `&` after bytes that are none stands in what follows them
-skip : (P : Type 0) (e more front rest : Text) → NoAmpersand e → e ++ more ≡ front ++ 38 ∷ rest
-    → ((front' : Text) → more ≡ front' ++ 38 ∷ rest → P) → P
-skip P [] more front rest none e go = go front e
+-- an `&` after bytes that are none is in what follows them
+skip : (P : Type 0) (e more prefix rest : Text) → NoAmpersand e → e ++ more ≡ prefix ++ 38 ∷ rest
+    → ((prefix' : Text) → more ≡ prefix' ++ 38 ∷ rest → P) → P
+skip P [] more prefix rest none e go = go prefix e
 skip P (b ∷ bs) more [] rest none e go = absurd (none.0 cc)
-skip P (b ∷ bs) more (f ∷ front) rest none e go = skip P bs more front rest none.1 (cc) go
+skip P (b ∷ bs) more (f ∷ prefix) rest none e go = skip P bs more prefix rest none.1 (cc) go
 
--- an `&` in an entity and what follows is the entity's first byte, or stands in what follows
-in_entity : (b : ℕ) (t more front rest : Text) → entity_of b ≡ Some (38 ∷ t) → NoAmpersand t
-    → (38 ∷ t) ++ more ≡ front ++ 38 ∷ rest → ((front' : Text) → more ≡ front' ++ 38 ∷ rest → BeginsEntity (38 ∷ rest))
+-- an `&` in an entity and what follows is the entity's first byte, or is in what follows
+in_entity : (b : ℕ) (t more prefix rest : Text) → entity_of b ≡ Some (38 ∷ t) → NoAmpersand t
+    → (38 ∷ t) ++ more ≡ prefix ++ 38 ∷ rest → ((prefix' : Text) → more ≡ prefix' ++ 38 ∷ rest → BeginsEntity (38 ∷ rest))
     → BeginsEntity (38 ∷ rest)
 in_entity b t more [] rest is none e go = record { byte = b; entity = 38 ∷ t; rest = more; is_entity = is; is = sym e }
-in_entity b t more (f ∷ front) rest is none e go = skip (BeginsEntity (38 ∷ rest)) t more front rest none (cc) go
+in_entity b t more (f ∷ prefix) rest is none e go = skip (BeginsEntity (38 ∷ rest)) t more prefix rest none (cc) go
 
 byte : (b : ℕ) → eqb b 38 ≡ false → b ≢ 38
 byte b h = grind (arith, nat_tests)
 
 abbrev AtByte : ℕ → Type 0
-AtByte b = (more front rest : Text) → escaped_byte b ++ more ≡ front ++ 38 ∷ rest
-    → ((front' : Text) → more ≡ front' ++ 38 ∷ rest → BeginsEntity (38 ∷ rest))
+AtByte b = (more prefix rest : Text) → escaped_byte b ++ more ≡ prefix ++ 38 ∷ rest
+    → ((prefix' : Text) → more ≡ prefix' ++ 38 ∷ rest → BeginsEntity (38 ∷ rest))
     → BeginsEntity (38 ∷ rest)
 
 at_byte : (b : ℕ) → AtByte b
 at_byte = by_bytes AtByte
-    (λ more front rest. in_entity 60 (codes "lt;") more front rest refl (byte _ refl, (byte _ refl, (byte _ refl, tt))))
-    (λ more front rest. in_entity 62 (codes "gt;") more front rest refl (byte _ refl, (byte _ refl, (byte _ refl, tt))))
-    (λ more front rest. in_entity 34 (codes "quot;") more front rest refl (byte _ refl, (byte _ refl, (byte _ refl, (byte _ refl, (byte _ refl, tt))))))
-    (λ more front rest. in_entity 38 (codes "amp;") more front rest refl (byte _ refl, (byte _ refl, (byte _ refl, (byte _ refl, tt)))))
-    (λ more front rest. in_entity 39 (codes "#x27;") more front rest refl (byte _ refl, (byte _ refl, (byte _ refl, (byte _ refl, (byte _ refl, tt))))))
-    (λ more front rest. in_entity 96 (codes "#x60;") more front rest refl (byte _ refl, (byte _ refl, (byte _ refl, (byte _ refl, (byte _ refl, tt))))))
-    (λ more front rest. in_entity 61 (codes "#x3D;") more front rest refl (byte _ refl, (byte _ refl, (byte _ refl, (byte _ refl, (byte _ refl, tt))))))
-    (λ b o more front rest e go. skip (BeginsEntity (38 ∷ rest)) (b ∷ []) more front rest (o.ampersand, tt)
+    (λ more prefix rest. in_entity 60 (codes "lt;") more prefix rest refl (byte _ refl, (byte _ refl, (byte _ refl, tt))))
+    (λ more prefix rest. in_entity 62 (codes "gt;") more prefix rest refl (byte _ refl, (byte _ refl, (byte _ refl, tt))))
+    (λ more prefix rest. in_entity 34 (codes "quot;") more prefix rest refl (byte _ refl, (byte _ refl, (byte _ refl, (byte _ refl, (byte _ refl, tt))))))
+    (λ more prefix rest. in_entity 38 (codes "amp;") more prefix rest refl (byte _ refl, (byte _ refl, (byte _ refl, (byte _ refl, tt)))))
+    (λ more prefix rest. in_entity 39 (codes "#x27;") more prefix rest refl (byte _ refl, (byte _ refl, (byte _ refl, (byte _ refl, (byte _ refl, tt))))))
+    (λ more prefix rest. in_entity 96 (codes "#x60;") more prefix rest refl (byte _ refl, (byte _ refl, (byte _ refl, (byte _ refl, (byte _ refl, tt))))))
+    (λ more prefix rest. in_entity 61 (codes "#x3D;") more prefix rest refl (byte _ refl, (byte _ refl, (byte _ refl, (byte _ refl, (byte _ refl, tt))))))
+    (λ b o more prefix rest e go. skip (BeginsEntity (38 ∷ rest)) (b ∷ []) more prefix rest (o.ampersand, tt)
     (sym (ap (λ t. t ++ more) (escaped_byte-other b o)) ∙ e) go)
 
 pub escaped_begins_entities : BeginsEntities
 unfolding escaped
 escaped_begins_entities [] [] rest e = absurd cc
-escaped_begins_entities [] (f ∷ front) rest e = absurd cc
-escaped_begins_entities (b ∷ bs) front rest e = at_byte b (escaped bs) front rest e (λ front' h. escaped_begins_entities bs front' rest h)
+escaped_begins_entities [] (f ∷ prefix) rest e = absurd cc
+escaped_begins_entities (b ∷ bs) prefix rest e = at_byte b (escaped bs) prefix rest e (λ prefix' h. escaped_begins_entities bs prefix' rest h)

@@ -1,4 +1,4 @@
--- What escaping does to a byte, and to a join.
+-- Escaping of a byte, and of joined texts.
 use Rattle.std.proofs.Common.{◌≡◌, ◌≢◌, ℕ, ◌<◌, ◌≤◌, ⊎_elim, [], ◌∷◌, ◌++◌, refl, sym, ap, ◌∙◌, subst, arith, append_assoc, None, Some, unwrap_or}
 use Rattle.std.proofs.lemmas.Bool.Decides.{eqb_tells}
 use Rattle.std.proofs.lemmas.Bool.{cases_lt, ne_eqb}
@@ -18,7 +18,7 @@ pub record IsOther (b : ℕ) : Type 0 where
 decide : (P : Type 0) (b k : ℕ) → (b ≡ k → P) → (b ≢ k → P) → P
 decide P b k here other = ⊎_elim (λ h. here h.1) (λ h. other h.1) (eqb_tells b k)
 
--- a fact of every number, by the seven bytes and the others
+-- a property of every number, by cases: the seven bytes and the others
 pub by_bytes : (P : ℕ → Type 0) → P 60 → P 62 → P 34 → P 38 → P 39 → P 96 → P 61 → ((b : ℕ) → IsOther b → P b) → (b : ℕ) → P b
 by_bytes P less greater quote ampersand apostrophe back equals others b =
     let at = λ (k : ℕ) (p : P k) (e : b ≡ k). subst P (sym e) p in
@@ -31,7 +31,7 @@ by_bytes P less greater quote ampersand apostrophe back equals others b =
     decide (P b) b 61 (at 61 equals) (λ h7.
     others b (record { less = h1; greater = h2; quote = h3; ampersand = h4; apostrophe = h5; back = h6; equals = h7 }))))))))
 
--- another byte stands for itself
+-- any other byte has no entity
 pub entity_of-other : (b : ℕ) → IsOther b → entity_of b ≡ None
 entity_of-other b o = rw (
   ne_eqb b 60 o.less,
@@ -57,7 +57,7 @@ entity_of-high b h = entity_of-other b record {
   equals = λ e. omega arith;
 }
 
--- a byte with an entity is a character of its own
+-- a byte with an entity is an ASCII character
 pub entity_is_ascii : (b : ℕ) (entity : Text) → entity_of b ≡ Some entity → b < 128
 entity_is_ascii b entity e = ⊎_elim (λ h. h) (λ h. absurd (let none = entity_of-high b h in cc)) (cases_lt b 128)
 

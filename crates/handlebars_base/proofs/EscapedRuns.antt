@@ -4,10 +4,10 @@ use Rattle.std.specs.Str.{IsCharBoundary, IsUtf8}
 use Rattle.std.proofs.lemmas.Str.{IsCharBoundary-after_ascii}
 use Rattle.std.proofs.lemmas.List.{take_more, take_all, drop_all, take-append-drop}
 use Rattle.handlebars_base.specs.Bytes.{Text}
-use Rattle.handlebars_base.specs.Escape.{IsPlain, entity_of, escaped_byte, escaped}
+use Rattle.handlebars_base.specs.Escape.{NeedsNoEscape, entity_of, escaped_byte, escaped}
 use Rattle.handlebars_base.proofs.EscapedBytes.{entity_is_ascii, escaped-append}
 
--- what is left at a byte, where the run before it is not written either
+-- what is left at a byte, if the run before it isn't written yet
 abbrev pub left_at : Text → ℕ → ℕ → Text
 left_at text written at = take (at - written) (drop written text) ++ escaped (drop at text)
 
@@ -21,10 +21,10 @@ run-more : (text : Text) (written at : ℕ) → written ≤ at → at < length t
 run-more text written at w l =
     let inside : at - written < length (drop written text) = omega (arith, length-drop written text) in
     let count : at + 1 - written ≡ at - written + 1 = omega arith in
-    let place : written + (at - written) ≡ at = omega arith in
+    let offset : written + (at - written) ≡ at = omega arith in
     ap (λ n. take n (drop written text)) count ∙ take_more (drop written text) (at - written) 0 inside
     ∙ ap (λ b. take (at - written) (drop written text) ++ b ∷ [])
-    (get_or-drop written text (at - written) 0 ∙ ap (λ n. get_or text n 0) place)
+    (get_or-drop written text (at - written) 0 ∙ ap (λ n. get_or text n 0) offset)
 
 -- what is read in the bytes of the text is read in the text
 entity_of-read : {x : Option Text} (text bytes : Text) (at : ℕ) → bytes ≡ text → x ≡ entity_of (get_or bytes at 0)
@@ -56,7 +56,7 @@ left_at-entity text bytes run entity written at is is_run l e =
     ap₂ (λ s t. s ++ t) (sym is_run) (escaped-drop text at (subst (λ t. at < length t) is l)
     ∙ ap₂ (λ s t. s ++ t) is_entity (sym (ap (λ n. take n (drop (at + 1) text) ++ rest) nothing)))
 
--- behind it a text may be cut
+-- a text may be split after it
 pub boundary-entity : (text bytes entity : Text) (at : ℕ) → IsUtf8 text → bytes ≡ text → at < length bytes
     → Some entity ≡ entity_of (get_or bytes at 0) → IsCharBoundary text (at + 1)
 boundary-entity text bytes entity at u is l e =
@@ -74,7 +74,7 @@ left_at-end text bytes run written at is is_run l =
     take_all (at - written) (drop written text) (omega (arith, length-drop written text)) in
     ap₂ (λ s t. s ++ t) all none ∙ append-nil (drop written text) ∙ sym is_run
 
--- ---- what stands in front of the first entity
+-- ---- what precedes the first entity
 
 pub escaped-nil : escaped [] ≡ []
 unfolding escaped
@@ -92,15 +92,15 @@ plain-more text at l e plain =
     let more = take_more text at 0 l in
     ap escaped more ∙ escaped-append (take at text) (b ∷ []) ∙ ap₂ (λ s t. s ++ t) plain (escaped-one b e) ∙ sym more
 
-pub is_plain-end : (text : Text) (at : ℕ) → length text ≤ at → escaped (take at text) ≡ take at text → IsPlain text (length text)
+pub is_plain-end : (text : Text) (at : ℕ) → length text ≤ at → escaped (take at text) ≡ take at text → NeedsNoEscape text (length text)
 is_plain-end text at past plain =
     let all = take_all at text past in
     let whole = take_all (length text) text (omega arith) in
     record { within = omega arith; plain = ap escaped (whole ∙ sym all) ∙ plain ∙ all ∙ sym whole }
 
 -- it is a run that is not written yet
-pub left_at-front : (text : Text) (plain : ℕ) → IsPlain text plain → escaped text ≡ left_at text 0 plain
-left_at-front text plain h =
-    let front : take plain text ≡ take (plain - 0) text = ap (λ n. take n text) (omega arith) in
+pub left_at-prefix : (text : Text) (plain : ℕ) → NeedsNoEscape text plain → escaped text ≡ left_at text 0 plain
+left_at-prefix text plain h =
+    let prefix : take plain text ≡ take (plain - 0) text = ap (λ n. take n text) (omega arith) in
     ap escaped (sym (take-append-drop plain text)) ∙ escaped-append (take plain text) (drop plain text)
-    ∙ ap (λ t. t ++ escaped (drop plain text)) (h.plain ∙ front)
+    ∙ ap (λ t. t ++ escaped (drop plain text)) (h.plain ∙ prefix)

@@ -1,7 +1,7 @@
 pub mod OptionBinds
 pub mod Bytes
 pub mod Runs
-pub mod Fronts
+pub mod Prefixes
 pub mod Ends
 pub mod Digits
 pub mod PathMarks
@@ -10,7 +10,7 @@ pub mod PathLinks
 pub mod PathShapes
 pub mod ReferenceLength
 pub mod References
-pub mod PathsInFront
+pub mod PathPrefixes
 pub mod Truths
 pub mod Numerals
 pub mod Equality

@@ -1,4 +1,4 @@
--- What `parse` gives of digits, with no plus and no zero in front; and texts with no minus.
+-- What `parse` returns for digits, with no plus and no zero before them; and texts with no minus.
 use Rattle.std.proofs.Common.{◌≡◌, ◌≢◌, ◌^◌, ◌<◌, ℕ, [], ◌∷◌, length, get_or, Some, None, Result, Ok, Err, Bool, true, false, ◌&&◌, cond, nat_lt, Decides, pos, option_map, refl, sym, ap, ◌∙◌, arith}
 use Rattle.std.proofs.lemmas.Bool.{false≢true, ne_eqb}
 use Rattle.std.proofs.lemmas.Bool.Decides.{Decides-ltb}

@@ -1,4 +1,4 @@
--- What is known behind a link of a reader that gave something, or nothing.
+-- What is known after one step of a reader, which returned a value or none.
 use Rattle.std.proofs.Common.{◌≡◌, ◌<◌, Bool, true, false, cond, eqb, List, length, Option, Some, None, refl, sym, ◌⊎◌, inl, inr, arith}
 use Rattle.std.proofs.lemmas.Bool.{eqb-true, eqb-false}
 use Rattle.std.specs.Option.{option_map}
@@ -38,7 +38,7 @@ pub cond_none : {A : Type 0} (b : Bool) (x : A) → cond b (Some x) None ≡ Non
 cond_none true x e = absurd cc
 cond_none false x e = refl
 
--- ---- what a reader's value stands for
+-- ---- what a reader's value represents
 
 pub map_some : {A B : Type 0} (f : A → B) (o : Option A) (y : B) → option_map f o ≡ Some y →
     (x : A) × (o ≡ Some x) × (f x ≡ y)
@@ -56,8 +56,8 @@ option_map-cond f false x o = refl
 
 -- ---- what `is_empty` says
 
-pub empty : {A : Type 0} (t : List A) → true ≡ eqb (length t) 0 → length t ≡ 0
-empty t e = eqb-true (length t) 0 (sym e)
+pub is_empty_length : {A : Type 0} (t : List A) → true ≡ eqb (length t) 0 → length t ≡ 0
+is_empty_length t e = eqb-true (length t) 0 (sym e)
 
 pub nonempty : {A : Type 0} (t : List A) → false ≡ eqb (length t) 0 → 0 < length t
 nonempty t e = let h = eqb-false (length t) 0 (sym e) in omega arith

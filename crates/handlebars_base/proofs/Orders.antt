@@ -1,4 +1,4 @@
--- The order of values is turned round with them, and total on numbers and on texts.
+-- Swapping values reverses their order, and the order is total on numbers and on texts.
 use Rattle.std.proofs.Common.{◌≡◌, ℤ, false, Option, Some, None, option_map, refl, sym, ap, ap₂, ◌∙◌, ◌⊎◌, inl, inr}
 use Rattle.std.proofs.lemmas.Bool.{true≢false}
 use Rattle.std.proofs.lemmas.Cmp.{int_cmp_total, nat_list_cmp_total, upto}
@@ -13,7 +13,7 @@ use Rattle.serde_json.specs.Find.{as_integer}
 use Rattle.handlebars_base.specs.Compare.{compared, integers_compared, spelled_number}
 use Rattle.handlebars_base.specs.ComparisonLaws.{reversed, OrderIsAntisymmetric, IsTotalOrder, IsNumber, IsTextValue}
 
--- ---- turned round
+-- ---- reversed
 
 reversed-is : (r : Ordering) → ordering_reverse r ≡ reversed r
 reversed-is Less = refl
@@ -33,7 +33,7 @@ integers_compared-turned None (Some b) = refl
 integers_compared-turned (Some a) None = refl
 integers_compared-turned (Some a) (Some b) = ap Some (turned int_cmp int_cmp_total a b)
 
--- with a value that nothing is ordered with
+-- with a value that has no order with any other
 none_turned : (x : Option ℤ) → None ≡ option_map reversed (integers_compared x None)
 none_turned x = sym (ap (option_map reversed) (integers_compared-none x))
 
@@ -94,7 +94,7 @@ either_way o p Less h k = inl (inl h)
 either_way o p Equal h k = inl (inr h)
 either_way o p Greater h k = inr (inl k)
 
--- values of a kind are ordered as what they hold
+-- values of a kind are ordered as their contents are
 module _ {K : Type 0} (R : K → K → Ordering) (o : cmp.IsTotalOrder R) (kind : Data → Type 0) (held : (d : Data) → kind d → K)
     (by : (d e : Data) (p : kind d) (q : kind e) → compared d e ≡ Some (R (held d p) (held e q))) where
   total_order : IsTotalOrder kind

@@ -1,4 +1,4 @@
--- Links behind a part, as many as fit: read one after the other, spelled, and read again.
+-- Links after a part, as many as fit: read one after the other, spelled, and read again.
 use Rattle.std.proofs.Common.{◌≡◌, ℕ, zero, suc, ◌<◌, ◌≤◌, Bool, List, [], ◌∷◌, ◌++◌, length, Some, None, refl, sym, ap, subst, ◌∙◌, append_assoc, arith, inl, inr, length-append}
 use Rattle.std.specs.List.{prefix_len}
 use Rattle.std.specs.Option.{option_map}
@@ -24,7 +24,7 @@ shorter_link : (before : Bool) (t : List ℕ) (q : Link × List ℕ) → link_at
 shorter_link before t q e =
     omega (arith, ap length (link_takes before t q e).parts, length-append (spelled_part q.0.part) q.1)
 
--- more than the text is long changes nothing
+-- a bound above the length of the text changes nothing
 enough : (n m : ℕ) (before : Bool) (t : List ℕ) → length t ≤ n → length t ≤ m → links_at n before t ≡ links_at m before t
 enough zero zero before t a b = refl
 enough zero (suc m) before t a b =
@@ -61,7 +61,7 @@ links_of-none before t e = at_none (length t) before t e
 
 -- ---- as a loop reads them, which sees no separator
 
--- no link is in front
+-- no link is at the start
 pub loop-none : (before : Bool) (t : List ℕ) → None ≡ option_map part_of_link (link_at before t) → links_of before t ≡ ([], t)
 loop-none before t none = links_of-none before t (map_none part_of_link (link_at before t) (sym none))
 
@@ -78,23 +78,23 @@ loop-rest before t p r e =
     subst (λ (x : PathPart × List ℕ). (links_of before t).1 ≡ (links_of (is_dots x.0) x.1).1) q.2
     (ap (λ (x : List Link × List ℕ). x.1) (links_of-some before t q.0 q.1))
 
-segments_of-some : (front : List Segment) (before : Bool) (t : List ℕ) (q : Link × List ℕ) → link_at before t ≡ Some q →
-    (front ++ part_segments q.0.part) ++ link_segments (links_of (is_dots q.0.part) q.1).0 ≡
-    front ++ link_segments (links_of before t).0
-segments_of-some front before t q e =
-    append_assoc front (part_segments q.0.part) (link_segments (links_of (is_dots q.0.part) q.1).0) ∙
-    ap (λ (x : List Link × List ℕ). front ++ link_segments x.0) (sym (links_of-some before t q e))
+segments_of-some : (prefix : List Segment) (before : Bool) (t : List ℕ) (q : Link × List ℕ) → link_at before t ≡ Some q →
+    (prefix ++ part_segments q.0.part) ++ link_segments (links_of (is_dots q.0.part) q.1).0 ≡
+    prefix ++ link_segments (links_of before t).0
+segments_of-some prefix before t q e =
+    append_assoc prefix (part_segments q.0.part) (link_segments (links_of (is_dots q.0.part) q.1).0) ∙
+    ap (λ (x : List Link × List ℕ). prefix ++ link_segments x.0) (sym (links_of-some before t q e))
 
-pub loop-segments : (front : List Segment) (before : Bool) (t : List ℕ) (p : PathPart) (r : List ℕ) →
+pub loop-segments : (prefix : List Segment) (before : Bool) (t : List ℕ) (p : PathPart) (r : List ℕ) →
     Some (p, r) ≡ option_map part_of_link (link_at before t) →
-    (front ++ part_segments p) ++ link_segments (links_of (is_dots p) r).0 ≡ front ++ link_segments (links_of before t).0
-loop-segments front before t p r e =
+    (prefix ++ part_segments p) ++ link_segments (links_of (is_dots p) r).0 ≡ prefix ++ link_segments (links_of before t).0
+loop-segments prefix before t p r e =
     let q = map_some part_of_link (link_at before t) (p, r) (sym e) in
-    let segments : PathPart × List ℕ → List Segment = λ x. (front ++ part_segments x.0) ++ link_segments (links_of (is_dots x.0) x.1).0 in
-    subst (λ (x : PathPart × List ℕ). segments x ≡ front ++ link_segments (links_of before t).0) q.2
-    (segments_of-some front before t q.0 q.1)
+    let segments : PathPart × List ℕ → List Segment = λ x. (prefix ++ part_segments x.0) ++ link_segments (links_of (is_dots x.0) x.1).0 in
+    subst (λ (x : PathPart × List ℕ). segments x ≡ prefix ++ link_segments (links_of before t).0) q.2
+    (segments_of-some prefix before t q.0 q.1)
 
--- ---- what is read is spelled so
+-- ---- the text spells what is read
 
 pub record TakesLinks (before : Bool) (t : List ℕ) (q : List Link × List ℕ) : Type 0 where
   pub parts : t ≡ spelled_links q.0 ++ q.1
@@ -110,10 +110,10 @@ links_take (suc n) before t =
           let taken = link_takes before t some.0 some.1 in
           let others = links_take n (is_dots some.0.0.part) some.0.1 in
           let read = links_at n (is_dots some.0.0.part) some.0.1 in
-          let behind : spelled_part some.0.0.part ++ some.0.1 ≡ (spelled_part some.0.0.part ++ spelled_links read.0) ++ read.1 =
+          let after : spelled_part some.0.0.part ++ some.0.1 ≡ (spelled_part some.0.0.part ++ spelled_links read.0) ++ read.1 =
           ap (λ (r : List ℕ). spelled_part some.0.0.part ++ r) others.parts ∙ sym (append_assoc (spelled_part some.0.0.part) (spelled_links read.0) read.1) in
           rw (some.1) (record {
-            parts = taken.parts ∙ ap (λ (r : List ℕ). some.0.0.sep ∷ r) behind;
+            parts = taken.parts ∙ ap (λ (r : List ℕ). some.0.0.sep ∷ r) after;
             fits = (taken.joined, taken.fits, others.fits);
           })
     ]
@@ -122,9 +122,9 @@ pub links_of_take : (before : Bool) (t : List ℕ) → TakesLinks before t (link
 unfolding links_of
 links_of_take before t = links_take (length t) before t
 
--- ---- what is spelled so is read
+-- ---- what a text spells is read
 
--- no link begins with a symbol, so a name in front of one ends there
+-- no link begins with a symbol, so a name before a link ends there
 pub links_stop : (before : Bool) (ss : List Link) (rest : List ℕ) → AreLinks before ss → prefix_len is_symbol rest ≡ 0 →
     prefix_len is_symbol (spelled_links ss ++ rest) ≡ 0
 links_stop before [] rest fits stop = stop
@@ -139,14 +139,14 @@ links_again : (n : ℕ) (before : Bool) (ss : List Link) (rest : List ℕ) → l
 links_again n before [] rest le fits stop none = at_none n before rest (none before)
 links_again zero before (s ∷ ss) rest le fits stop none = absurd (omega arith)
 links_again (suc n) before (s ∷ ss) rest le fits stop none =
-    let behind = spelled_links ss ++ rest in
-    let first = link_again before s behind fits.0 fits.1 (links_stop (is_dots s.part) ss rest fits.2 stop) in
-    let whole : s.sep ∷ (spelled_part s.part ++ behind) ≡ spelled_links (s ∷ ss) ++ rest =
+    let after = spelled_links ss ++ rest in
+    let first = link_again before s after fits.0 fits.1 (links_stop (is_dots s.part) ss rest fits.2 stop) in
+    let whole : s.sep ∷ (spelled_part s.part ++ after) ≡ spelled_links (s ∷ ss) ++ rest =
     ap (λ (r : List ℕ). s.sep ∷ r) (sym (append_assoc (spelled_part s.part) (spelled_links ss) rest)) in
-    ap (links_at (suc n) before) (sym whole) ∙ at_link n before _ (s, behind) first ∙
+    ap (links_at (suc n) before) (sym whole) ∙ at_link n before _ (s, after) first ∙
     ap (with_link s) (links_again n (is_dots s.part) ss rest (omega arith) fits.2 stop none)
 
--- each link takes a byte at least, so the reader's bound is enough
+-- each link takes at least one byte, so the reader's bound is enough
 links_long : (ss : List Link) → length ss ≤ length (spelled_links ss)
 links_long [] = omega arith
 links_long (s ∷ ss) = omega (arith, links_long ss, length-append (spelled_part s.part) (spelled_links ss))

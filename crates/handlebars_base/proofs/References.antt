@@ -1,4 +1,5 @@
--- Paths within longer texts: what a path's text is like, and that a front that goes as far as it can ends with it.
+-- Paths within longer texts: what a path's text is like, and that the longest prefix that is a reference ends with the
+-- path.
 use Rattle.std.proofs.Common.{◌≡◌, ℕ, zero, suc, ◌+◌, Bool, true, false, not, List, [], ◌∷◌, ◌++◌, length, refl, sym, ap, subst, ◌∙◌, append_assoc, arith, inl, inr, length-append}
 use Rattle.std.specs.Prelude.{◌==◌, ◌||◌, codes}
 use Rattle.std.specs.List.{AllByRecursion}
@@ -9,9 +10,9 @@ use Rattle.handlebars_base.specs.Bytes.{is_symbol, left_bracket}
 use Rattle.handlebars_base.proofs.PathParts.{joins_cases}
 use Rattle.handlebars_base.proofs.Bytes.{other_byte}
 
--- ---- a reference goes over the whole of a path
+-- ---- a reference contains the whole of a path
 
--- A reference goes over all of this text, and on from its end.
+-- A reference contains all of this text, and continues from its end.
 pub record IsPassed (text : List ℕ) : Type 0 where
   pub passes : (follow : List ℕ) → reference_len (text ++ follow) ≡ length text + reference_len follow
 
@@ -61,10 +62,10 @@ passed_links : (before : Bool) (ss : List Link) → AreLinks before ss → IsPas
 passed_links before [] fits = passed_none
 passed_links before (s ∷ ss) fits =
     let more = passed_links (is_dots s.part) ss fits.2 in
-    let behind = passed_both (spelled_part s.part) (spelled_links ss) (passed_part s.part fits.1) more in
+    let after = passed_both (spelled_part s.part) (spelled_links ss) (passed_part s.part fits.1) more in
     elim (joins_cases before s.sep (is_dots s.part) fits.0) [
-      | inl slash ↦ rw slash (passed_byte 47 _ refl refl behind)
-      | inr point ↦ rw point.0 (passed_byte 46 _ refl refl behind)
+      | inl slash ↦ rw slash (passed_byte 47 _ refl refl after)
+      | inr point ↦ rw point.0 (passed_byte 46 _ refl refl after)
     ]
 
 passed_ups : (n : ℕ) (t : List ℕ) → IsPassed t → IsPassed (ups n ++ t)
@@ -75,8 +76,8 @@ passed_ups (suc n) t p =
 passed_name : (n : ℕ) (name : List ℕ) (ss : List Link) → IsIdentifier name → AreLinks false ss →
     IsPassed (64 ∷ (ups n ++ (name ++ spelled_links ss)))
 passed_name n name ss id fits =
-    let behind = passed_both name (spelled_links ss) (passed_symbols name id.1) (passed_links false ss fits) in
-    passed_byte 64 _ refl refl (passed_ups n (name ++ spelled_links ss) behind)
+    let after = passed_both name (spelled_links ss) (passed_symbols name id.1) (passed_links false ss fits) in
+    passed_byte 64 _ refl refl (passed_ups n (name ++ spelled_links ss) after)
 
 passed_parts : (p : PathPart) (ss : List Link) → IsPathPart p → AreLinks (is_dots p) ss →
     IsPassed (spelled_part p ++ spelled_links ss)
@@ -93,7 +94,7 @@ passed_shape (in_parts true p ss) fits =
     passed_byte 46 _ refl refl (passed_byte 47 _ refl refl (passed_parts p ss fits.0 fits.1))
 passed_shape (in_parts false p ss) fits = passed_parts p ss fits.0 fits.1
 
--- a reference goes over a path, and on behind it
+-- a reference contains a path, and continues after it
 pub reference_len-append : (text follow : List ℕ) (means : Reference) → IsPath text means →
     reference_len (text ++ follow) ≡ length text + reference_len follow
 reference_len-append text follow means h =
@@ -104,13 +105,13 @@ reference_len-append text follow means h =
 abbrev pub starts_reference : ℕ → Bool
 starts_reference b = is_reference_byte b || b == left_bracket
 
--- the text goes on with none of these, or ends
-abbrev pub stops : List ℕ → Bool
-stops [] = true
-stops (x ∷ xs) = not (starts_reference x)
+-- the text begins with none of these, or is empty
+abbrev pub ends_reference : List ℕ → Bool
+ends_reference [] = true
+ends_reference (x ∷ xs) = not (starts_reference x)
 
--- where the text stops, no reference goes on
-pub reference_len-stops : (t : List ℕ) → stops t ≡ true → reference_len t ≡ 0
+-- no reference continues in such a text
+pub reference_len-stops : (t : List ℕ) → ends_reference t ≡ true → reference_len t ≡ 0
 unfolding reference_from
 reference_len-stops [] h = refl
 reference_len-stops (x ∷ xs) h =
@@ -119,13 +120,13 @@ reference_len-stops (x ∷ xs) h =
 
 -- ---- how a path begins
 
-starts_part : (p : PathPart) (t : List ℕ) → IsPathPart p → stops (spelled_part p ++ t) ≡ false
+starts_part : (p : PathPart) (t : List ℕ) → IsPathPart p → ends_reference (spelled_part p ++ t) ≡ false
 starts_part dots t fits = refl
 starts_part (plain []) t fits = absurd (fits.0 refl)
 starts_part (plain (x ∷ xs)) t fits = rw (fits.1.0) refl
 starts_part (bracketed n) t fits = refl
 
-starts_shape : (s : Shape) → IsShape s → stops (spelled_path s) ≡ false
+starts_shape : (s : Shape) → IsShape s → ends_reference (spelled_path s) ≡ false
 starts_shape itself fits = refl
 starts_shape (at_root ss) fits = refl
 starts_shape (at_name n name ss) fits = refl
@@ -133,5 +134,5 @@ starts_shape (in_parts true p ss) fits = refl
 starts_shape (in_parts false p ss) fits = starts_part p (spelled_links ss) fits.0
 
 -- a path begins with a byte that a reference begins with
-pub stops-path : (text : List ℕ) (means : Reference) → IsPath text means → stops text ≡ false
-stops-path text means h = ap stops h.spells ∙ starts_shape h.shape h.fits
+pub ends_reference-path : (text : List ℕ) (means : Reference) → IsPath text means → ends_reference text ≡ false
+ends_reference-path text means h = ap ends_reference h.spells ∙ starts_shape h.shape h.fits

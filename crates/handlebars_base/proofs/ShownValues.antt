@@ -8,13 +8,13 @@ use Rattle.serde_json.specs.Find.{as_u64, as_i64}
 use Rattle.serde_json.specs.View.{view, items_view, members_view, number_view}
 use Rattle.serde_json.specs.declared.value.Value.{Value, Null, Bool as BoolOf, Number as NumberOf, String as StringOf, Array, Object, the_lemmas}
 use Rattle.serde_json.specs.declared.number.Number.{Number}
-use Rattle.handlebars_base.specs.Values.{rendered, rendered_items, rendered_number, word, separator}
+use Rattle.handlebars_base.specs.Values.{rendered, rendered_items, rendered_number, boolean_text, separator}
 use Rattle.handlebars_base.specs.Escape.{escaped}
 use Rattle.handlebars_base.specs.Shown.{escaped_if, shown}
 use Rattle.handlebars_base.proofs.EscapedBytes.{escaped-append}
 use Rattle.handlebars_base.proofs.EscapedNumbers.{escaped-numeric, numeric-decimal, numeric-signed_decimal}
 
--- a value by what it is in the code
+-- a value by its variant in the code
 pub view-Null : view Null ≡ null
 view-Null = search (rules, the_lemmas)
 
@@ -40,13 +40,13 @@ pub escaped-null : (v : Value) → v ≡ Null → escaped (rendered (view v)) �
 unfolding escaped
 escaped-null v e = ap (λ d. escaped (rendered d)) (ap view e ∙ view-Null)
 
-escaped-word : (b : Bool) → escaped (word b) ≡ word b
+escaped-boolean_text : (b : Bool) → escaped (boolean_text b) ≡ boolean_text b
 unfolding escaped
-escaped-word true = refl
-escaped-word false = refl
+escaped-boolean_text true = refl
+escaped-boolean_text false = refl
 
-pub escaped-bool : (v : Value) (b is : Bool) → v ≡ BoolOf b → b ≡ is → escaped (rendered (view v)) ≡ word is
-escaped-bool v b is e f = ap (λ d. escaped (rendered d)) (ap view e ∙ view-Bool b ∙ ap boolean f) ∙ escaped-word is
+pub escaped-bool : (v : Value) (b is : Bool) → v ≡ BoolOf b → b ≡ is → escaped (rendered (view v)) ≡ boolean_text is
+escaped-bool v b is e f = ap (λ d. escaped (rendered d)) (ap view e ∙ view-Bool b ∙ ap boolean f) ∙ escaped-boolean_text is
 
 pub escaped-object : (v : Value) (m : BTreeMap (String Global) Value) → v ≡ Object m → escaped (rendered (view v)) ≡ codes "[object]"
 unfolding escaped
@@ -61,7 +61,7 @@ pub escaped-array : (ds : Items) → escaped (rendered (array ds)) ≡ codes "["
 unfolding escaped
 escaped-array ds = ap (λ t. codes "[" ++ t) (escaped-append (rendered_items true ds) (codes "]"))
 
--- the members from one on: what stands before it, itself, and the others
+-- the members from one on: what is written before it, the member, and the others
 pub escaped-items : (first : Bool) (d : Data) (ds : Items)
     → escaped (rendered_items first (item d ds)) ≡ separator first ++ (escaped (rendered d) ++ escaped (rendered_items false ds))
 escaped-items first d ds =
@@ -103,13 +103,13 @@ escaped-float (unsigned m) n e = cc
 escaped-float (negative y) n e = cc
 escaped-float (float f) n e = refl
 
--- ---- the same, where escaping is on or off
+-- ---- the same with escaping on or off
 
 pub shown-null : (escapes : Bool) (v : Value) → v ≡ Null → shown escapes (view v) ≡ []
 shown-null true v e = escaped-null v e
 shown-null false v e = ap rendered (ap view e ∙ view-Null)
 
-pub shown-bool : (escapes : Bool) (v : Value) (b is : Bool) → v ≡ BoolOf b → b ≡ is → shown escapes (view v) ≡ word is
+pub shown-bool : (escapes : Bool) (v : Value) (b is : Bool) → v ≡ BoolOf b → b ≡ is → shown escapes (view v) ≡ boolean_text is
 shown-bool true v b is e f = escaped-bool v b is e f
 shown-bool false v b is e f = ap rendered (ap view e ∙ view-Bool b ∙ ap boolean f)
 
@@ -135,7 +135,7 @@ pub shown-items_end : (escapes first : Bool) (vs : List Value) (i : ℕ) → len
 shown-items_end true first vs i l = escaped-items_end first vs i l
 shown-items_end false first vs i l = ap (λ ws. rendered_items first (items_view ws)) (drop_all i vs l)
 
--- digits need no escape
+-- digits need no escaping
 pub shown-unsigned : (escapes : Bool) (x : Num) (n : ℕ) → Some n ≡ as_u64 x → escaped_if escapes (rendered_number x) ≡ decimal n
 shown-unsigned true x n e = escaped-unsigned x n e
 shown-unsigned false (unsigned m) n e = let is : m ≡ n = cc in ap decimal is

@@ -41,14 +41,14 @@ slash = 47
 abbrev pub colon : ℕ
 colon = 58
 
-abbrev pub less : ℕ
-less = 60
+abbrev pub less_than_sign : ℕ
+less_than_sign = 60
 
 abbrev pub equals_sign : ℕ
 equals_sign = 61
 
-abbrev pub greater : ℕ
-greater = 62
+abbrev pub greater_than_sign : ℕ
+greater_than_sign = 62
 
 abbrev pub at_sign : ℕ
 at_sign = 64
@@ -84,7 +84,7 @@ is_symbol b =
 abbrev pub is_white : ℕ → Bool
 is_white b = (b == space) || ((b == tab) || ((b == newline) || (b == carriage_return)))
 
--- what follows the white in front
-abbrev pub behind_white : Text → Text
-behind_white [] = []
-behind_white (b ∷ t) = if is_white b then behind_white t else b ∷ t
+-- what follows the white space at the start
+abbrev pub after_white : Text → Text
+after_white [] = []
+after_white (b ∷ t) = if is_white b then after_white t else b ∷ t

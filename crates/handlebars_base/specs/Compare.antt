@@ -16,7 +16,7 @@ abbrev pub is_empty : Text → Bool
 is_empty [] = true
 is_empty (b ∷ t) = false
 
--- `0`, or digits of which the first is no zero, below 2^64
+-- `0`, or digits that don't begin with a zero, below 2^64
 abbrev pub spelled_digits : Text → Option ℕ
 spelled_digits [] = None
 spelled_digits (b ∷ t) =
@@ -24,7 +24,7 @@ spelled_digits (b ∷ t) =
     else (if all_ascii_digits (b ∷ t) && nat_lt (digits_value 10 (b ∷ t)) (2 ^ 64)
     then Some (digits_value 10 (b ∷ t)) else None)
 
--- behind a minus: no zero, and at most 2^63
+-- after a minus: not zero, and at most 2^63
 abbrev pub below_zero : ℕ → Option ℤ
 below_zero n = if nat_lt 0 n && nat_le n (2 ^ 63) then Some (neg_ℤ (pos n)) else None
 
@@ -46,7 +46,7 @@ integer_of (object ms) = None
 abbrev pub integers_compared : Option ℤ → Option ℤ → Option Ordering
 integers_compared x y = x >>= λ a. option_map (int_cmp a) y
 
--- Two texts are ordered by their bytes; a text and a number by the number that the text spells.
+-- Two texts are ordered by their bytes. A text and a number are ordered by the number that the text spells.
 abbrev pub text_compared : Text → Data → Option Ordering
 text_compared s e = with_or (as_str e) (λ t. Some (slice_cmp nat_cmp s t)) (integers_compared (spelled_number s) (integer_of e))
 

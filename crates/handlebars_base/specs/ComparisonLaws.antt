@@ -11,7 +11,7 @@ use Rattle.handlebars_base.specs.Compare.{compared}
 
 -- ---- equality
 
--- a value with null in the place of each number outside the range
+-- a value with each number outside the range replaced by null
 abbrev mutual
   pub in_range : Data → Data
   in_range null = null
@@ -29,7 +29,7 @@ abbrev mutual
   members_in_range no_members = no_members
   members_in_range (member k d ms) = member k (in_range d) (members_in_range ms)
 
--- Equal values are one value, numbers outside the range aside.
+-- Two values are equal exactly if they are the same after each number outside the range is replaced by null.
 abbrev pub EqualIsSame : Type 0
 EqualIsSame = (d e : Data) → (equals d e ≡ true) ↔ (in_range d ≡ in_range e)
 
@@ -49,7 +49,7 @@ reversed Less = Greater
 reversed Equal = Equal
 reversed Greater = Less
 
--- The other way round, the order is turned round.
+-- Swapping two values reverses their order.
 abbrev pub OrderIsAntisymmetric : Type 0
 OrderIsAntisymmetric = (d e : Data) → compared e d ≡ option_map reversed (compared d e)
 
@@ -57,7 +57,7 @@ OrderIsAntisymmetric = (d e : Data) → compared e d ≡ option_map reversed (co
 abbrev pub IsAtMost : Data → Data → Type 0
 IsAtMost d e = (compared d e ≡ Some Less) ⊎ (compared d e ≡ Some Equal)
 
--- Of values of this kind one is at most the other, and what is at most another is at most what that is at most.
+-- On values of this kind the order is total and transitive.
 pub record IsTotalOrder (kind : Data → Type 0) : Type 0 where
   pub total : (d e : Data) → kind d → kind e → IsAtMost d e ⊎ IsAtMost e d
   pub transitive : (d e f : Data) → kind d → kind e → kind f → IsAtMost d e → IsAtMost e f → IsAtMost d f
@@ -69,6 +69,6 @@ IsNumber d = (n : Num) × (z : ℤ) × (d ≡ number n) × (as_integer n ≡ Som
 abbrev pub IsTextValue : Data → Type 0
 IsTextValue d = (s : Text) × (d ≡ string s)
 
--- Two numbers are ordered as equal just where they are equal.
+-- Two numbers are ordered as equal exactly if they are equal.
 abbrev pub OrderAgreesOnNumbers : Type 0
 OrderAgreesOnNumbers = (d e : Data) → IsNumber d → IsNumber e → (compared d e ≡ Some Equal) ↔ (equals d e ≡ true)

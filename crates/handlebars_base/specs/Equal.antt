@@ -21,12 +21,13 @@ same_boolean b c = if b then c else not c
 abbrev pub integer_in : Data → Option ℤ
 integer_in d = as_number d >>= as_integer
 
--- a number, of which the integer is given if it is in the range
+-- whether a number equals a value; the number is given as its integer, if it is in the range
 abbrev pub number_equals : Option ℤ → Data → Bool
 number_equals None e = is_null e
 number_equals (Some x) e = with_or (integer_in e) (int_eq x) false
 
--- Values are equal that are of one kind and have equal parts. Objects have the same keys, which stand in order.
+-- Two values are equal if they are of the same kind and have equal parts. Equal objects have the same keys, which are stored
+-- in order.
 abbrev mutual
   pub equals : Data → Data → Bool
   equals null e = is_null e

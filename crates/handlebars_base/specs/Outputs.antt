@@ -1,4 +1,4 @@
--- What an output holds after a write, and what a write that failed is called.
+-- What an output holds after a write, and the reason that a failed write becomes.
 use Rattle.std.specs.Prelude.{◌≡◌, ℕ, ◌+◌, ◌^◌, ◌<◌, [], ◌++◌, length, Result, Ok, Err, string_bytes}
 use Rattle.std.specs.declared.io.Error.{Error}
 use Rattle.std.specs.declared.io.ErrorKind.{ErrorKind}
@@ -10,38 +10,39 @@ use Rattle.handlebars_base.specs.declared.output.StringOutput.{StringOutput}
 -- what an output holds: its text, and how many of its writes have failed
 pub record Held : Type 0 where
   pub text : Text
-  pub faults : ℕ
+  pub write_errors : ℕ
 
 -- what a new output holds
 abbrev pub empty_output : Held
-empty_output = record { text = []; faults = 0 }
+empty_output = record { text = []; write_errors = 0 }
 
--- a beginning of a text, which may be nothing or all of it
+-- a prefix of a text, which may be empty or all of it
 abbrev pub IsPrefix : Text → Text → Type 0
-IsPrefix front t = (rest : Text) × (t ≡ front ++ rest)
+IsPrefix prefix t = (rest : Text) × (t ≡ prefix ++ rest)
 
--- all of a text is written behind what was there
+-- the whole text is appended to what was there
 pub record IsWhole (t : Text) (before after : Held) : Type 0 where
   pub text : after.text ≡ before.text ++ t
-  pub faults : after.faults ≡ before.faults
+  pub write_errors : after.write_errors ≡ before.write_errors
 
--- A beginning of it is, and the write has failed: that counts, as far as 64 bits count. To write nothing never fails.
-pub record IsCutOff (t : Text) (before after : Held) : Type 0 where
+-- A prefix of the text is appended, and the write has failed. The failure is counted, as far as 64 bits can count. Writing
+-- nothing never fails.
+pub record IsWrittenInPart (t : Text) (before after : Held) : Type 0 where
   pub some : 0 < length t
-  pub front : Text
-  pub is_front : IsPrefix front t
-  pub text : after.text ≡ before.text ++ front
-  pub faults : before.faults + 1 < 2 ^ 64 → after.faults ≡ before.faults + 1
+  pub prefix : Text
+  pub is_prefix : IsPrefix prefix t
+  pub text : after.text ≡ before.text ++ prefix
+  pub write_errors : before.write_errors + 1 < 2 ^ 64 → after.write_errors ≡ before.write_errors + 1
 
 abbrev pub Written : Text → Held → Result (Unit {0}) Error → Held → Type 0
 Written t before (Ok u) after = IsWhole t before after
-Written t before (Err e) after = IsCutOff t before after
+Written t before (Err e) after = IsWrittenInPart t before after
 
 -- what an output in memory holds
 abbrev pub held_of : StringOutput → Held
-held_of o = record { text = string_bytes o.text; faults = o.faults }
+held_of o = record { text = string_bytes o.text; write_errors = o.write_errors }
 
--- why a rendering is refused whose output failed: memory keeps its name, and all else is a fault of the output
+-- the reason of a rendering whose write failed: out of memory stays out of memory, and any other error is an I/O error
 abbrev pub write_reason : ErrorKind → Reason
 write_reason OutOfMemory = out_of_memory
 write_reason kind = io_error kind

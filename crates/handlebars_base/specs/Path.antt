@@ -1,5 +1,5 @@
 -- The grammar of paths, over the bytes of a text, and what a path means. Each mark is one ASCII byte, and each byte
--- of another character is a symbol, so bytes tell the same as characters.
+-- of another character is a symbol, so reading bytes gives the same as reading characters.
 use Rattle.std.specs.Prelude.{◌≡◌, ◌≢◌, ℕ, zero, suc, Bool, true, false, not, ◌&&◌, ◌||◌, ◌==◌, if◌then◌else◌, List, [], ◌∷◌, ◌++◌, codes, ⊤}
 use Rattle.std.specs.List.{AllByRecursion}
 use Rattle.std.specs.Str.{bytes_eq}
@@ -14,8 +14,8 @@ pub data Segment : Type 0 where
   local : Segment
   up : Segment
 
--- A path through the data by its segments, or a variable of the block so many blocks up, by its name. Both keep
--- the text as written.
+-- A path through the data, given by its segments; or a variable, given by its name and the number of blocks up. Both
+-- include the text as written.
 pub data Reference : Type 0 where
   relative : List Segment → Text → Reference
   variable : ℕ → Text → Text → Reference
@@ -42,7 +42,7 @@ spelled_part dots = codes ".."
 spelled_part (plain n) = n
 spelled_part (bracketed n) = left_bracket ∷ (n ++ right_bracket ∷ [])
 
--- brackets hold anything but a closing one
+-- a name in brackets contains no closing bracket
 abbrev pub IsPathPart : PathPart → Type 0
 IsPathPart dots = ⊤
 IsPathPart (plain n) = IsIdentifier n
@@ -55,7 +55,7 @@ is_dots (bracketed n) = false
 
 -- ---- links
 
--- a separator, and the part behind it
+-- a separator, and the part after it
 pub record Link : Type 0 where
   pub sep : ℕ
   pub part : PathPart
@@ -66,9 +66,9 @@ spelled_links (s ∷ ss) = s.sep ∷ (spelled_part s.part ++ spelled_links ss)
 
 -- `/` joins any two parts, and `.` two of which neither is `..`
 abbrev pub joins : Bool → ℕ → Bool → Bool
-joins before sep behind = (sep == slash) || ((sep == dot) && (not before && not behind))
+joins before sep after = (sep == slash) || ((sep == dot) && (not before && not after))
 
--- links behind a part, which is `..` or not
+-- links after a part, which is `..` or not
 abbrev pub AreLinks : Bool → List Link → Type 0
 AreLinks before [] = ⊤
 AreLinks before (s ∷ ss) =
@@ -76,15 +76,15 @@ AreLinks before (s ∷ ss) =
 
 -- ---- whole paths
 
--- `.` alone; `@root` and links; `@`, a number of `../`, a name and links; or a part and links, with `./` in front
--- or not
+-- `.` alone; `@root` and links; `@`, a number of `../`, a name and links; or a part and links, with or without `./`
+-- before them
 pub data Shape : Type 0 where
   itself : Shape
   at_root : List Link → Shape
   at_name : ℕ → Text → List Link → Shape
   in_parts : Bool → PathPart → List Link → Shape
 
--- so many `../`
+-- this many `../`
 abbrev pub ups : ℕ → Text
 ups zero = []
 ups (suc n) = dot ∷ dot ∷ slash ∷ ups n
@@ -96,7 +96,7 @@ spelled_path (at_name n name ss) = at_sign ∷ (ups n ++ (name ++ spelled_links 
 spelled_path (in_parts true p ss) = dot ∷ slash ∷ (spelled_part p ++ spelled_links ss)
 spelled_path (in_parts false p ss) = spelled_part p ++ spelled_links ss
 
--- A variable isn't named `this`, and right behind the `@` not `root`, which is the root's own form.
+-- A variable isn't named `this`. Directly after the `@` it isn't named `root` either, since `@root` is the root.
 abbrev pub IsShape : Shape → Type 0
 IsShape itself = ⊤
 IsShape (at_root ss) = AreLinks false ss
@@ -108,7 +108,7 @@ IsShape (in_parts b p ss) = IsPathPart p × AreLinks (is_dots p) ss
 
 -- ---- from the shape to the meaning
 
--- the name `this` adds no segment, in brackets neither
+-- the name `this` adds no segment, with or without brackets
 abbrev pub name_segments : Text → List Segment
 name_segments n = if bytes_eq n (codes "this") then [] else named n ∷ []
 
@@ -121,7 +121,7 @@ abbrev pub link_segments : List Link → List Segment
 link_segments [] = []
 link_segments (s ∷ ss) = part_segments s.part ++ link_segments ss
 
--- The links behind a variable's name add nothing.
+-- The links after a variable's name add nothing.
 abbrev pub meaning : Text → Shape → Reference
 meaning text itself = relative [] text
 meaning text (at_root ss) = relative (root ∷ link_segments ss) text

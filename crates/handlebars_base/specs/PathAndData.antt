@@ -16,6 +16,6 @@ path_and_data p =
     let path = option_map string_bytes p.relative_path in
     record { relative_path = path; found = found_of p.value; is_constant = is_constant p.value }
 
--- the value, where it is a constant
+-- the value, if it is a constant
 abbrev pub constant_in : PathAndData → Option Data
 constant_in p = cond p.is_constant (present_in p.found) None

@@ -1,11 +1,11 @@
--- Reading a path from left to right, and how far a reference goes, as functions on lists.
+-- Reading a path from left to right, and the length of a reference, as functions on lists.
 use Rattle.std.specs.Prelude.{ℕ, zero, suc, ◌+◌, Bool, true, false, ◌&&◌, ◌||◌, ◌==◌, nat_lt, if◌then◌else◌, List, [], ◌∷◌, ◌++◌, length, take, drop, Option, Some, None, is_some, codes}
 use Rattle.std.specs.List.{prefix_len, position_or_len, before_first, after_first}
 use Rattle.std.specs.Str.{bytes_eq}
 use Rattle.std.specs.Option.{option_map}
 use Rattle.handlebars_base.specs.Bytes.{Text, dot, slash, at_sign, left_bracket, right_bracket, is_symbol}
 use Rattle.handlebars_base.specs.Optional.{◌>>=◌, with_or}
-use Rattle.handlebars_base.specs.Texts.{behind_byte, symbols_of, behind_symbols}
+use Rattle.handlebars_base.specs.Texts.{after_byte, symbols_of, after_symbols}
 use Rattle.handlebars_base.specs.Path.{Segment, root, Reference, relative, variable, raw_of, PathPart, dots, plain, bracketed, is_dots, Link, Shape, itself, at_root, at_name, in_parts, part_segments, link_segments, meaning}
 
 -- ---- marks
@@ -14,63 +14,63 @@ abbrev pub is_up_mark : ℕ → ℕ → ℕ → Bool
 is_up_mark a b c = (a == dot) && ((b == dot) && (c == slash))
 
 -- what follows `../`
-unfoldable pub behind_up : Text → Option Text
-behind_up (a ∷ b ∷ c ∷ r) = if is_up_mark a b c then Some r else None
-behind_up _ = None
+unfoldable pub after_up : Text → Option Text
+after_up (a ∷ b ∷ c ∷ r) = if is_up_mark a b c then Some r else None
+after_up _ = None
 
--- how many `../` stand at the front, on top of n, and what follows them
+-- n plus the number of `../` at the start, and what follows them
 unfoldable pub ups_at : ℕ → Text → ℕ × Text
 ups_at n (a ∷ b ∷ c ∷ r) = if is_up_mark a b c then ups_at (n + 1) r else (n, a ∷ b ∷ c ∷ r)
 ups_at n t = (n, t)
 
--- ---- parts and links, each with the text behind it
+-- ---- parts and links, each with the text after it
 
--- a name in brackets, behind the opening one
+-- a name in brackets, read after the opening bracket
 unfoldable pub bracketed_at : Text → Option (PathPart × Text)
 bracketed_at t =
     if nat_lt (position_or_len (λ b. b == right_bracket) t) (length t)
     then Some (bracketed (before_first (λ b. b == right_bracket) t), after_first (λ b. b == right_bracket) t)
     else None
 
--- an identifier, as long as it goes
+-- the longest identifier at the start
 unfoldable pub plain_at : Text → Option (PathPart × Text)
-plain_at t = if prefix_len is_symbol t == 0 then None else Some (plain (symbols_of t), behind_symbols t)
+plain_at t = if prefix_len is_symbol t == 0 then None else Some (plain (symbols_of t), after_symbols t)
 
--- After one `.` only another makes a part.
+-- After one `.` only a second one makes a part.
 unfoldable pub part_at : Text → Option (PathPart × Text)
 part_at t =
-    with_or (behind_byte dot t) (λ r. behind_byte dot r >>= λ r. Some (dots, r))
-    (with_or (behind_byte left_bracket t) bracketed_at (plain_at t))
+    with_or (after_byte dot t) (λ r. after_byte dot r >>= λ r. Some (dots, r))
+    (with_or (after_byte left_bracket t) bracketed_at (plain_at t))
 
 abbrev pub link_by : ℕ → PathPart × Text → Link × Text
 link_by sep p = (record { sep = sep; part = p.0 }, p.1)
 
--- A link behind a part, which is `..` or not. A `.` joins no `..`.
+-- A link after a part, which is `..` or not. A `.` doesn't join `..` to anything.
 unfoldable pub link_at : Bool → Text → Option (Link × Text)
 link_at before t =
-    with_or (behind_byte slash t) (λ r. part_at r >>= λ p. Some (link_by slash p))
-    (behind_byte dot t >>= λ r. part_at r >>= λ p. if before || is_dots p.0 then None else Some (link_by dot p))
+    with_or (after_byte slash t) (λ r. part_at r >>= λ p. Some (link_by slash p))
+    (after_byte dot t >>= λ r. part_at r >>= λ p. if before || is_dots p.0 then None else Some (link_by dot p))
 
 abbrev pub part_of_link : Link × Text → PathPart × Text
 part_of_link q = (q.0.part, q.1)
 
--- a link in front of those that were read behind it
+-- a link before those that were read after it
 abbrev pub with_link : Link → List Link × Text → List Link × Text
 with_link s q = (s ∷ q.0, q.1)
 
--- links as long as they fit, at most the number, and what follows them
+-- as many links as fit, at most this number, and what follows them
 unfoldable pub links_at : ℕ → Bool → Text → List Link × Text
 links_at zero before t = ([], t)
 links_at (suc n) before t =
     with_or (link_at before t) (λ q. with_link q.0 (links_at n (is_dots q.0.part) q.1)) ([], t)
 
--- Each link takes a byte at least, so this many are enough.
+-- Each link takes at least one byte, so the length of the text bounds their number.
 unfoldable pub links_of : Bool → Text → List Link × Text
 links_of before t = links_at (length t) before t
 
 -- ---- where a path starts
 
--- at this value, by `.` alone; at the root; at a variable so many blocks up; or at a part
+-- at this value, by `.` alone; at the root; at a variable this many blocks up; or at a part
 pub data Start : Type 0 where
   here : Start
   from_root : Start
@@ -80,37 +80,37 @@ pub data Start : Type 0 where
 abbrev pub named_start : ℕ → Text → Start
 named_start level name = if (level == 0) && bytes_eq name (codes "root") then from_root else from_variable level name
 
--- a name behind an `@`, given as the number of `../` and the text behind them
+-- a name after an `@`, given as the number of `../` and the text after them
 unfoldable pub at_sign_start : ℕ × Text → Option (Start × Text)
 at_sign_start u =
     if bytes_eq (symbols_of u.1) [] || bytes_eq (symbols_of u.1) (codes "this")
     then None
-    else Some (named_start u.0 (symbols_of u.1), behind_symbols u.1)
+    else Some (named_start u.0 (symbols_of u.1), after_symbols u.1)
 
 abbrev pub part_start : PathPart × Text → Option (Start × Text)
 part_start p = Some (from_part p.0, p.1)
 
--- A path with no `@`. A `.` that begins no `..` is followed by a `/` and a part, or by nothing of the path.
+-- A path with no `@`. A `.` that doesn't begin `..` is followed by a `/` and a part, or it is the whole path.
 unfoldable pub start_without_at_sign : Text → Option (Start × Text)
 start_without_at_sign t =
     with_or (part_at t) part_start
-    (behind_byte dot t >>= λ r. with_or (behind_byte slash r) (λ r. part_at r >>= part_start) (Some (here, r)))
+    (after_byte dot t >>= λ r. with_or (after_byte slash r) (λ r. part_at r >>= part_start) (Some (here, r)))
 
 unfoldable pub start_at : Text → Option (Start × Text)
-start_at t = with_or (behind_byte at_sign t) (λ r. at_sign_start (ups_at 0 r)) (start_without_at_sign t)
+start_at t = with_or (after_byte at_sign t) (λ r. at_sign_start (ups_at 0 r)) (start_without_at_sign t)
 
 -- ---- whole paths
 
--- the links behind a start, and what follows them
-abbrev pub links_behind : Start → Text → List Link × Text
-links_behind here t = ([], t)
-links_behind from_root t = links_of false t
-links_behind (from_variable level name) t = links_of false t
-links_behind (from_part p) t = links_of (is_dots p) t
+-- the links after a start, and what follows them
+abbrev pub links_after : Start → Text → List Link × Text
+links_after here t = ([], t)
+links_after from_root t = links_of false t
+links_after (from_variable level name) t = links_of false t
+links_after (from_part p) t = links_of (is_dots p) t
 
--- whether `./` stands in front
+-- whether `./` is at the start
 abbrev pub is_dotted : Text → Bool
-is_dotted t = is_some (behind_byte dot t >>= behind_byte slash)
+is_dotted t = is_some (after_byte dot t >>= after_byte slash)
 
 abbrev pub shape_from : Bool → Start → List Link → Shape
 shape_from dotted here ss = itself
@@ -131,10 +131,10 @@ start_meaning text from_root segments = relative segments text
 start_meaning text (from_variable level name) segments = variable level name text
 start_meaning text (from_part p) segments = relative segments text
 
--- the shape in front of a text, with links as long as they fit, and what follows it
+-- the shape at the start of a text, with as many links as fit, and what follows it
 unfoldable pub shape_at : Text → Option (Shape × Text)
 shape_at t = start_at t >>= λ s.
-    Some (shape_from (is_dotted t) s.0 (links_behind s.0 s.1).0, (links_behind s.0 s.1).1)
+    Some (shape_from (is_dotted t) s.0 (links_after s.0 s.1).0, (links_after s.0 s.1).1)
 
 -- the path that the whole text is
 unfoldable pub shape_of : Text → Option Shape
@@ -143,35 +143,36 @@ shape_of t = shape_at t >>= λ s. if length s.1 == 0 then Some s.0 else None
 abbrev pub path_of : Text → Option Reference
 path_of t = option_map (meaning t) (shape_of t)
 
--- ---- how far a reference goes
+-- ---- the length of a reference
 
--- a byte that stands in a path outside brackets: a symbol, `.`, `/` or `@`
+-- a byte that occurs in a path outside brackets: a symbol, `.`, `/` or `@`
 abbrev pub is_reference_byte : ℕ → Bool
 is_reference_byte b = is_symbol b || (b == dot || (b == slash || b == at_sign))
 
--- one more, where there is any
-abbrev pub one_more : ℕ → ℕ
-one_more zero = zero
-one_more (suc n) = suc (suc n)
+-- one more, unless it is zero
+abbrev pub increment_nonzero : ℕ → ℕ
+increment_nonzero zero = zero
+increment_nonzero (suc n) = suc (suc n)
 
--- how far a reference goes from here on, in brackets or not: brackets that are never closed give nothing
+-- the number of bytes by which a reference continues from here, inside brackets or not; brackets that are never closed
+-- count nothing
 unfoldable pub reference_from : Bool → Text → ℕ
 reference_from within [] = 0
 reference_from true (x ∷ xs) =
-    if x == right_bracket then suc (reference_from false xs) else one_more (reference_from true xs)
+    if x == right_bracket then suc (reference_from false xs) else increment_nonzero (reference_from true xs)
 reference_from false (x ∷ xs) =
     if x == left_bracket
-    then one_more (reference_from true xs)
+    then increment_nonzero (reference_from true xs)
     else if is_reference_byte x then suc (reference_from false xs) else 0
 
--- the length of the longest front of reference bytes and of names in brackets, each closed
+-- the length of the longest prefix of reference bytes and of names in brackets, each closed
 abbrev pub reference_len : Text → ℕ
 reference_len text = reference_from false text
 
--- The path that the longest front of reference bytes is, and what follows it.
+-- The path that the longest prefix of reference bytes and closed brackets spells, if it is one, and what follows it.
 unfoldable pub path_at : Text → Option (Reference × Text)
 path_at t = path_of (take (reference_len t) t) >>= λ means. Some (means, drop (reference_len t) t)
 
 -- the text of that path, and what follows it
-abbrev pub slice_at : Text → Option (Text × Text)
-slice_at t = option_map (λ p. (raw_of p.0, p.1)) (path_at t)
+abbrev pub path_token_at : Text → Option (Text × Text)
+path_token_at t = option_map (λ p. (raw_of p.0, p.1)) (path_at t)

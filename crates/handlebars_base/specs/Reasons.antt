@@ -1,10 +1,10 @@
--- Why something is refused: the reasons as plain data. Of a cause that comes from outside the system's kind is all that
--- stands here.
+-- Why a template is rejected or a call fails: the reasons as plain data. Of a cause that comes from outside, a reason holds
+-- only the system's error kind.
 use Rattle.std.specs.Prelude.{ℕ, Option, None}
 use Rattle.std.specs.declared.io.ErrorKind.{ErrorKind}
 use Rattle.handlebars_base.specs.Bytes.{Text}
 
--- why a template has no tree
+-- why a template is rejected
 pub data TemplateReason : Type 0 where
   mismatching_closed_helper : Text → Text → TemplateReason
   mismatching_closed_decorator : Text → Text → TemplateReason
@@ -15,13 +15,13 @@ pub data TemplateReason : Type 0 where
   walkdir_error : Text → TemplateReason
   template_out_of_memory : TemplateReason
 
--- why a template has no tree, in which template, at which line and column
+-- why a template is rejected, in which template, at which line and column
 pub record TemplateRefusal : Type 0 where
   pub reason : TemplateReason
   pub name : Option Text
   pub position : Option (ℕ × ℕ)
 
--- why a call is refused
+-- why a call fails
 pub data Reason : Type 0 where
   template_not_found : Text → Reason
   template_error : TemplateRefusal → Reason
@@ -51,7 +51,7 @@ pub data Reason : Type 0 where
   failed : Reason
   out_of_memory : Reason
 
--- A template's refusal is the reason of a refusal; its want of memory is want of memory.
+-- The reason of a call that fails because of a template's error. If the template's reason is out of memory, so is this one.
 abbrev pub reason_for : TemplateRefusal → TemplateReason → Reason
 reason_for f (mismatching_closed_helper a b) = template_error f
 reason_for f (mismatching_closed_decorator a b) = template_error f
@@ -65,16 +65,16 @@ reason_for f template_out_of_memory = out_of_memory
 abbrev pub of_template : TemplateRefusal → Reason
 of_template f = reason_for f f.reason
 
--- where something is refused or a write failed, as far as it is known: in which template, at which line and column
-pub record Spot : Type 0 where
+-- where an error occurred, as far as it is known: in which template, at which line and column
+pub record Location : Type 0 where
   pub name : Option Text
   pub line : Option ℕ
   pub column : Option ℕ
 
-abbrev pub nowhere : Spot
+abbrev pub nowhere : Location
 nowhere = record { name = None; line = None; column = None }
 
--- a refusal: why, and where
+-- an error: why, and where
 pub record Refusal : Type 0 where
   pub reason : Reason
-  pub spot : Spot
+  pub location : Location

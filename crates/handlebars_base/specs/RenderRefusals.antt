@@ -1,10 +1,10 @@
--- What the errors of rendering stand for.
+-- What the errors of rendering represent.
 use Rattle.std.specs.Prelude.{ℕ, Option, Some, None, option_map, Result, Ok, Err, string_bytes}
 use Rattle.std.specs.IoError.{error_kind}
 use Rattle.std.specs.Option.{option_or}
 use Rattle.std.specs.declared.alloc.AllocError.{AllocError}
 use Rattle.handlebars_base.specs.Bytes.{Text}
-use Rattle.handlebars_base.specs.Reasons.{Reason, Spot, nowhere, Refusal, TemplateRefusal, template_not_found, of_template, missing_variable, partial_not_found, partial_block_not_found, helper_not_found, param_not_found_for_index, param_not_found_for_name, param_type_mismatch_for_name, hash_type_mismatch_for_name, decorator_not_found, cannot_include_self, invalid_logging_level, invalid_param_type, block_content_required, invalid_json_path, invalid_json_index, serde_error, io_error, utf8_error, nested_error, unimplemented, other, inclusion_limit, invalid_number, failed, out_of_memory}
+use Rattle.handlebars_base.specs.Reasons.{Reason, Location, nowhere, Refusal, TemplateRefusal, template_not_found, of_template, missing_variable, partial_not_found, partial_block_not_found, helper_not_found, param_not_found_for_index, param_not_found_for_name, param_type_mismatch_for_name, hash_type_mismatch_for_name, decorator_not_found, cannot_include_self, invalid_logging_level, invalid_param_type, block_content_required, invalid_json_path, invalid_json_index, serde_error, io_error, utf8_error, nested_error, unimplemented, other, inclusion_limit, invalid_number, failed, out_of_memory}
 use Rattle.handlebars_base.specs.TemplateRefusals.{template_refusal_of}
 use Rattle.handlebars_base.specs.declared.error.render_error.RenderError.{RenderError}
 use Rattle.handlebars_base.specs.declared.error.render_error.RenderErrorReason.{RenderErrorReason}
@@ -39,16 +39,16 @@ reason_of InvalidNumber = invalid_number
 reason_of Failed = failed
 reason_of OutOfMemory = out_of_memory
 
--- a reason, or want of memory
+-- a reason, or out of memory
 abbrev pub reason_or_memory : Result RenderErrorReason AllocError → Reason
 reason_or_memory (Ok r) = reason_of r
 reason_or_memory (Err e) = out_of_memory
 
--- the reason itself, with a cause that comes from outside
+-- the reason itself, including a cause that comes from outside
 abbrev pub cause_of : RenderError → RenderErrorReason
 cause_of e = e.reason
 
--- the template's refusal that a reason holds
+-- the template's error that a reason holds
 abbrev pub refusal_within : RenderErrorReason → Option TemplateRefusal
 refusal_within (TemplateError e) = Some (template_refusal_of e)
 refusal_within r = None
@@ -56,24 +56,24 @@ refusal_within r = None
 abbrev pub reason_in : RenderError → Reason
 reason_in e = reason_of e.reason
 
-abbrev pub spot_of : RenderError → Spot
-spot_of e = record { name = option_map string_bytes e.template_name; line = e.line_no; column = e.column_no }
+abbrev pub location_of : RenderError → Location
+location_of e = record { name = option_map string_bytes e.template_name; line = e.line_no; column = e.column_no }
 
 abbrev pub refusal_of : RenderError → Refusal
-refusal_of e = record { reason = reason_in e; spot = spot_of e }
+refusal_of e = record { reason = reason_in e; location = location_of e }
 
--- a refusal with no template and no position yet
+-- an error with no template and no position yet
 abbrev pub plain_refusal : Reason → Refusal
-plain_refusal r = record { reason = r; spot = nowhere }
+plain_refusal r = record { reason = r; location = nowhere }
 
 -- the name of the innermost template that has one
-abbrev pub name_if_none : Text → Spot → Spot
+abbrev pub name_if_none : Text → Location → Location
 name_if_none n s = record s { name = option_or s.name (Some n) }
 
-abbrev pub place_unless_known : Spot → Option ℕ → ℕ → ℕ → Spot
-place_unless_known s None line column = record s { line = Some line; column = Some column }
-place_unless_known s (Some l) line column = s
+abbrev pub position_unless_known : Location → Option ℕ → ℕ → ℕ → Location
+position_unless_known s None line column = record s { line = Some line; column = Some column }
+position_unless_known s (Some l) line column = s
 
--- The position of the innermost element that has one. Where no line is known, line and column are taken.
-abbrev pub place_if_none : ℕ → ℕ → Spot → Spot
-place_if_none line column s = place_unless_known s s.line line column
+-- The position of the innermost element that has one. If no line is known yet, line and column are set.
+abbrev pub position_if_none : ℕ → ℕ → Location → Location
+position_if_none line column s = position_unless_known s s.line line column

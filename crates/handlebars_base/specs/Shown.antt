@@ -5,11 +5,11 @@ use Rattle.handlebars_base.specs.Bytes.{Text}
 use Rattle.handlebars_base.specs.Values.{rendered}
 use Rattle.handlebars_base.specs.Escape.{escaped}
 
--- a text, escaped where escaping is on
+-- a text, escaped if escaping is on
 abbrev pub escaped_if : Bool → Text → Text
 escaped_if true t = escaped t
 escaped_if false t = t
 
--- a value, rendered, and escaped where escaping is on
+-- a value as rendered, escaped if escaping is on
 abbrev pub shown : Bool → Data → Text
 shown escapes d = escaped_if escapes (rendered d)

@@ -1,4 +1,4 @@
--- What the errors of templates stand for.
+-- What the errors of templates represent.
 use Rattle.std.specs.Prelude.{ℕ, Option, Some, None, option_map, string_bytes}
 use Rattle.handlebars_base.specs.Bytes.{Text}
 use Rattle.handlebars_base.specs.Reasons.{TemplateReason, TemplateRefusal, mismatching_closed_helper, mismatching_closed_decorator, invalid_syntax, invalid_param, nested_subexpression, template_io_error, walkdir_error, template_out_of_memory}
@@ -16,23 +16,23 @@ template_reason_of (IoError e name) = template_io_error (string_bytes name)
 template_reason_of (WalkdirError a) = walkdir_error (string_bytes a)
 template_reason_of OutOfMemory = template_out_of_memory
 
--- the reason itself, with a cause that comes from outside
+-- the reason itself, including a cause that comes from outside
 abbrev pub template_cause_of : TemplateError → TemplateErrorReason
 template_cause_of e = e.reason
 
--- the lines of the source that it shows, where it shows any
+-- the lines of the source that it shows, if any
 abbrev pub shown_lines : TemplateError → Option Text
 shown_lines e = option_map string_bytes e.segment
 
--- a line and a column, where both are there
-abbrev pub both : Option ℕ → Option ℕ → Option (ℕ × ℕ)
-both None y = None
-both (Some x) None = None
-both (Some x) (Some y) = Some (x, y)
+-- a line and a column, if both are known
+abbrev pub zip_some : Option ℕ → Option ℕ → Option (ℕ × ℕ)
+zip_some None y = None
+zip_some (Some x) None = None
+zip_some (Some x) (Some y) = Some (x, y)
 
 abbrev pub template_refusal_of : TemplateError → TemplateRefusal
 template_refusal_of e = record {
   reason = template_reason_of e.reason;
   name = option_map string_bytes e.template_name;
-  position = both e.line_no e.column_no;
+  position = zip_some e.line_no e.column_no;
 }

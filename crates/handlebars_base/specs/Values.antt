@@ -10,33 +10,34 @@ rendered_number (unsigned n) = decimal n
 rendered_number (negative z) = signed_decimal z
 rendered_number (float x) = []
 
-abbrev pub word : Bool → Text
-word true = codes "true"
-word false = codes "false"
+abbrev pub boolean_text : Bool → Text
+boolean_text true = codes "true"
+boolean_text false = codes "false"
 
--- what stands before a member: nothing before the first, else a comma and a space
+-- what is written before a member: nothing before the first, otherwise a comma and a space
 abbrev pub separator : Bool → Text
 separator true = []
 separator false = codes ", "
 
--- null is empty; a text is itself; an array's members stand in brackets; an object shows none of its own.
+-- Null is empty, a text is itself, an array's members are in brackets, and an object shows none of its members.
 abbrev mutual
   pub rendered : Data → Text
   rendered null = []
-  rendered (boolean b) = word b
+  rendered (boolean b) = boolean_text b
   rendered (number n) = rendered_number n
   rendered (string s) = s
   rendered (array ds) = codes "[" ++ rendered_items true ds ++ codes "]"
   rendered (object ms) = codes "[object]"
 
-  -- the members, of which the first is the array's first or not
+  -- the members; the flag says whether the first of them is the array's first
   pub rendered_items : Bool → Items → Text
   rendered_items first no_items = []
   rendered_items first (item d ds) = separator first ++ (rendered d ++ rendered_items false ds)
 
 -- ---- truth
 
--- Whether a number counts as true: 0 only where it may. A negative one isn't 0. One outside the range counts as null.
+-- Whether a number counts as true: 0 does only with `include_zero`. A negative number isn't 0. A number outside the range
+-- counts as null.
 abbrev pub truth_of_number : Bool → Num → Bool
 truth_of_number include_zero (unsigned n) = include_zero || not (n == 0)
 truth_of_number include_zero (negative z) = true
@@ -50,8 +51,8 @@ abbrev pub has_members : Members → Bool
 has_members no_members = false
 has_members (member k d ms) = true
 
--- Whether a value counts as true, with 0 counted as true or not: a boolean is itself, a text, an array and an object
--- count where they aren't empty.
+-- Whether a value counts as true; `include_zero` says whether 0 does. A boolean is itself. A text, an array or an object
+-- counts as true if it isn't empty.
 abbrev pub truth : Bool → Data → Bool
 truth include_zero null = false
 truth include_zero (boolean b) = b

@@ -1,4 +1,4 @@
-//! Why a template is refused, and why a rendering is.
+//! Why a template is rejected, and why a rendering fails.
 
 mod render_error;
 mod template_error;

@@ -1,4 +1,4 @@
-//! Values of JSON as templates render them, and the paths that lead to them.
+//! JSON values as templates render them, and the paths that lead to them.
 
 pub mod path;
 pub mod value;

@@ -1,21 +1,21 @@
-//! Laws that callers may cite. Each is a function that does nothing: its contract is the law.
+//! Laws that callers may cite. Each law is the contract of a function that does nothing.
 
 ghost use Rattle.handlebars_base.specs.ComparisonLaws.{EqualIsSame, EqualIsReflexive, EqualIsSymmetric, EqualIsTransitive, OrderIsAntisymmetric, IsTotalOrder, IsNumber, IsTextValue, OrderAgreesOnNumbers};
 ghost use Rattle.handlebars_base.specs.EscapeLaws.{Joins, IsInjective, IsUnmarked, BeginsEntities};
-ghost use Rattle.handlebars_base.specs.Laws.{OneMeaning, PathsInFront};
+ghost use Rattle.handlebars_base.specs.Laws.{OneMeaning, PathPrefixes};
 
-/// No text is a path in two ways.
+/// A text has at most one meaning as a path.
 pub fn one_meaning()
     ensures { OneMeaning }
 {}
 
-/// What `split_path` and `read_front` find is a path up to where no reference goes on, and each such path is found.
-pub fn paths_in_front()
-    ensures { PathsInFront }
+/// `split_path` and `read_prefix` find exactly the paths at the start of a text that end where no reference continues.
+pub fn path_prefixes()
+    ensures { PathPrefixes }
 {}
 
-/// Equal values are one value, numbers outside the range aside; so equality is reflexive, symmetric
-/// and transitive.
+/// Equal values are the same value, apart from numbers outside the range. So equality is reflexive, symmetric and
+/// transitive.
 pub fn equality_laws()
     ensures same { EqualIsSame }
     ensures reflexive { EqualIsReflexive }
@@ -23,8 +23,8 @@ pub fn equality_laws()
     ensures transitive { EqualIsTransitive }
 {}
 
-/// The order is turned round with its values, is total on numbers and on texts, and says of two
-/// numbers that they are equal just where they are.
+/// Swapping two values reverses their order. The order is total on numbers and on texts. Two numbers are ordered as equal
+/// exactly if they are equal.
 pub fn order_laws()
     ensures antisymmetric { OrderIsAntisymmetric }
     ensures numbers { IsTotalOrder IsNumber }

@@ -1,5 +1,5 @@
-//! The base of the template engine: its errors, JSON as templates see it, and where a text or a value
-//! is written, escaped or as it is.
+//! The base of the template engine: its errors, JSON as templates see it, and outputs, to which texts and values are
+//! written, escaped or unchanged.
 #![tactic(auto)]
 
 pub mod error;

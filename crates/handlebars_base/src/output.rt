@@ -1,4 +1,4 @@
-//! Where a rendering writes.
+//! The outputs of a rendering.
 
 ghost use Rattle.std.specs.Prelude.{◌≡◌, ◌≢◌, ◌<◌, ◌≤◌, length, IfErr, IfOk, OnErr, OnOk, string_bytes, string_capacity};
 ghost use Rattle.std.specs.IoError.{error_kind};
@@ -12,73 +12,76 @@ use std::alloc::{AllocError, Global};
 use std::io;
 use std::io::ErrorKind;
 
-/// Takes the text of a rendering, segment by segment.
+/// A destination for the text of a rendering, which is written segment by segment.
 pub trait Output {
     // What has been written, and how many writes have failed.
     ghost held: { Self → Held };
 
-    // The errors that a write may give: any, where the output does not say.
+    // The errors that a write may return: any, if the output doesn't restrict them.
     ghost may_give: { Error → Type 0 } = { λ _. Unit {0} };
 
-    /// Writes a segment. Where that fails, a beginning of the segment may have been written. To write
-    /// nothing never fails.
+    /// Writes a segment. Writing the empty segment never fails.
+    ///
+    /// # Errors
+    ///
+    /// On failure a prefix of the segment may have been written.
     fn write(&mut self, seg: &str) -> Result<(), io::Error>
         ensures written { Written seg.now (held self.old) result (held self.new) }
         ensures given { IfErr result may_give };
 }
 
-/// Keeps the text. A write fails only for want of memory, and then nothing of it is kept.
+/// Stores the text in memory. A write fails only when memory runs out, and then stores nothing.
 #[derive(Drop)]
 pub struct StringOutput {
     text: String,
-    faults: u64,
+    write_errors: u64,
 }
 
 impl StringOutput {
-    /// Nothing yet; this takes no memory.
+    /// Creates an empty output. Allocates nothing.
     pub fn new(alloc: Global) -> StringOutput
         ensures { held_of result ≡ empty_output }
     {
         StringOutput {
             text: String::new(alloc),
-            faults: 0,
+            write_errors: 0,
         }
     }
 
-    // Nothing yet, with room for a text of so many bytes.
+    // Creates an empty output with capacity for a text of this many bytes.
     pub(crate) fn with_capacity(alloc: Global, capacity: usize) -> Result<StringOutput, AllocError>
         ensures held { IfOk result (λ o. held_of o ≡ empty_output) }
-        ensures room { IfOk result (λ o. capacity ≤ string_capacity o.text) }
+        ensures reserved { IfOk result (λ o. capacity ≤ string_capacity o.text) }
     {
         Ok(StringOutput {
             text: String::with_capacity(alloc, capacity)?,
-            faults: 0,
+            write_errors: 0,
         })
     }
 
-    // Keeps a segment, where there is memory for it. What is inlined is a copy, where there is room.
+    // Appends a segment, if there is memory for it. The part that is inlined is a copy into the capacity that is left.
     #[inline(always)]
-    fn keep(&mut self, seg: &str) -> Result<(), AllocError>
+    fn push_segment(&mut self, seg: &str) -> Result<(), AllocError>
         ensures ok { OnOk result (IsWhole seg.now (held_of self.old) (held_of self.new)) }
         ensures err { OnErr result (held_of self.new ≡ held_of self.old) }
         ensures some { OnErr result (0 < length seg.now) }
     {
         if self.text.capacity() - self.text.len() < seg.len() {
-            return self.keep_growing(seg);
+            return self.push_growing(seg);
         }
         self.text.push_str(seg)
     }
 
-    // Keeps a segment that has no room yet.
+    // Appends a segment that exceeds the capacity that is left.
     #[inline(never)]
-    fn keep_growing(&mut self, seg: &str) -> Result<(), AllocError>
+    fn push_growing(&mut self, seg: &str) -> Result<(), AllocError>
         ensures ok { OnOk result (IsWhole seg.now (held_of self.old) (held_of self.new)) }
         ensures err { OnErr result (held_of self.new ≡ held_of self.old) }
     {
         self.text.push_str(seg)
     }
 
-    /// All that was written.
+    /// Returns the text that was written.
     pub fn into_string(self) -> String
         ensures { string_bytes result ≡ (held_of self).text }
     {
@@ -97,19 +100,18 @@ impl Output for StringOutput {
         ensures given { IfErr result (λ e. error_kind e ≡ OutOfMemory) }
         ensures whole { OnErr result ((held_of self.new).text ≡ (held_of self.old).text) }
     {
-        match self.keep(seg) {
+        match self.push_segment(seg) {
             Ok(()) => Ok(()),
             Err(cause) => {
-                self.faults = self.faults.saturating_add(1);
+                self.write_errors = self.write_errors.saturating_add(1);
                 Err(cause.into())
             }
         }
     }
 }
 
-/// The refusal for a write that failed: `OutOfMemory` for want of memory, and else `IOError` of the
-/// cause.
-pub fn output_fault(cause: io::Error) -> RenderError
+/// Returns the error for a write that failed: `OutOfMemory` if memory ran out, otherwise `IOError` of the cause.
+pub fn output_error(cause: io::Error) -> RenderError
     ensures refusal { refusal_of result ≡ plain_refusal (write_reason (error_kind cause)) }
     ensures cause { error_kind cause ≢ OutOfMemory → cause_of result ≡ RenderErrorReason.IOError cause }
 {

@@ -1,7 +1,7 @@
-//! Escaping of texts.
+//! Escaping of text.
 
 ghost use Rattle.std.specs.Prelude.{◌≡◌, ◌≤◌, [], ◌++◌, length, IfErr, IfOk, IfSome, OnOk, option_map, string_bytes};
-ghost use Rattle.handlebars_base.specs.Escape.{IsPlain, entity_of, escaped};
+ghost use Rattle.handlebars_base.specs.Escape.{NeedsNoEscape, entity_of, escaped};
 ghost use Rattle.handlebars_base.specs.Outputs.{Written};
 
 use crate::output::{Output, StringOutput};
@@ -9,24 +9,32 @@ use arrayvec::ArrayString;
 use std::alloc::{AllocError, Global};
 use std::io;
 
-// What is gathered of an escaped text before it is written.
+// Collects escaped text before it is written.
 type Piece = ArrayString<256>;
 
-/// Replaces the seven characters `<`, `>`, `"`, `&`, `'`, `` ` `` and `=` by entities of HTML. Takes
-/// time linear in the text.
+/// Replaces the seven characters `<`, `>`, `"`, `&`, `'`, `` ` `` and `=` by HTML entities. Runs in time linear in the
+/// text.
+///
+/// # Errors
+///
+/// Fails if memory runs out.
 pub fn escape_html(alloc: Global, text: &str) -> Result<String, AllocError>
     ensures { IfOk result (λ s. string_bytes s ≡ escaped text.now) }
 {
     let mut out = StringOutput::with_capacity(alloc, text.len())?;
     match write_escaped(&mut out, text) {
         Ok(()) => Ok(out.into_string()),
-        // An output in memory fails only for want of it.
+        // An output in memory fails only when memory runs out.
         Err(_) => Err(AllocError),
     }
 }
 
-/// Writes what `escape_html` makes of the text, with no memory taken. A text with nothing to escape goes in
-/// one write; any other goes a piece at a time, so that a write isn't paid for each entity.
+/// Writes the text as `escape_html` returns it, without allocating. A text with nothing to escape is written at once.
+/// Any other text is written in pieces, so that not every entity costs a write.
+///
+/// # Errors
+///
+/// Fails with the output's error if a write fails.
 pub fn write_escaped<O: Output>(out: &mut O, text: &str) -> Result<(), io::Error>
     ensures written { Written (escaped text.now) (O.held out.old) result (O.held out.new) }
     ensures given { IfErr result O.may_give }
@@ -38,9 +46,9 @@ pub fn write_escaped<O: Output>(out: &mut O, text: &str) -> Result<(), io::Error
     write_marked(out, text, plain)
 }
 
-// How many bytes stand in front of the first that has an entity.
+// Returns how many bytes precede the first that has an entity.
 fn plain_len(bytes: &[u8]) -> usize
-    ensures { IsPlain bytes.now result }
+    ensures { NeedsNoEscape bytes.now result }
 {
     for at in 0..bytes.len() {
         if entity_of(bytes[at]).is_some() {
@@ -50,9 +58,9 @@ fn plain_len(bytes: &[u8]) -> usize
     bytes.len()
 }
 
-// Writes a text, escaped, of which so many bytes in front have no entities.
+// Writes a text, escaped. Its first `plain` bytes have no entities.
 fn write_marked<O: Output>(out: &mut O, text: &str, plain: usize) -> Result<(), io::Error>
-    requires { IsPlain text.now plain }
+    requires { NeedsNoEscape text.now plain }
     ensures written { Written (escaped text.now) (O.held out.old) result (O.held out.new) }
     ensures given { IfErr result O.may_give }
 {
@@ -63,7 +71,7 @@ fn write_marked<O: Output>(out: &mut O, text: &str, plain: usize) -> Result<(), 
         if let Some(entity) = entity_of(bytes[at]) {
             let run = &text[written..at];
             if piece.remaining_capacity() < run.len() + entity.len() {
-                write_behind(out, &mut piece, run)?;
+                write_after(out, &mut piece, run)?;
             } else {
                 piece.push_str(run);
             }
@@ -71,12 +79,12 @@ fn write_marked<O: Output>(out: &mut O, text: &str, plain: usize) -> Result<(), 
             written = at + 1;
         }
     }
-    write_behind(out, &mut piece, &text[written..])
+    write_after(out, &mut piece, &text[written..])
 }
 
-// Writes a piece and what stands behind it, and leaves the piece empty.
+// Writes a piece and the text after it, and leaves the piece empty.
 #[inline(never)]
-fn write_behind<O: Output>(out: &mut O, piece: &mut Piece, text: &str) -> Result<(), io::Error>
+fn write_after<O: Output>(out: &mut O, piece: &mut Piece, text: &str) -> Result<(), io::Error>
     ensures written { Written (piece.old.bytes ++ text.now) (O.held out.old) result (O.held out.new) }
     ensures empty { OnOk result (piece.new.bytes ≡ []) }
     ensures given { IfErr result O.may_give }
@@ -86,7 +94,7 @@ fn write_behind<O: Output>(out: &mut O, piece: &mut Piece, text: &str) -> Result
     out.write(text)
 }
 
-// What stands for a byte in an escaped text, where that is not the byte.
+// Returns the entity of a byte in an escaped text, if it has one.
 #[inline(always)]
 fn entity_of(byte: u8) -> Option<&'static str>
     ensures is { option_map (λ s. s.now) result ≡ entity_of byte }
@@ -104,14 +112,22 @@ fn entity_of(byte: u8) -> Option<&'static str>
     }
 }
 
-/// `escape_html` under the name that rendering uses by default.
+/// The same as `escape_html`, under the name that rendering uses by default.
+///
+/// # Errors
+///
+/// Fails if memory runs out.
 pub fn html_escape(alloc: Global, text: &str) -> Result<String, AllocError>
     ensures { IfOk result (λ s. string_bytes s ≡ escaped text.now) }
 {
     escape_html(alloc, text)
 }
 
-/// A copy of the text, for what is rendered with no escaping.
+/// Returns a copy of the text, for rendering without escaping.
+///
+/// # Errors
+///
+/// Fails if memory runs out.
 pub fn no_escape(alloc: Global, text: &str) -> Result<String, AllocError>
     ensures { IfOk result (λ s. string_bytes s ≡ text.now) }
 {

@@ -6,7 +6,7 @@ use Rattle.std.specs.Cmp.Lexicographic.{slice_cmp}
 use Rattle.handlebars_base.specs.Bytes.{Text}
 use Rattle.handlebars_base.proofs.OptionBinds.{option_map-cond}
 use Rattle.handlebars_scope.specs.Scopes.{put_at}
-use Rattle.handlebars_meaning.specs.State.{taken_from}
+use Rattle.handlebars_semantics.specs.State.{taken_from}
 
 -- a map in which a value was put, as definitions see it
 pub by_text-put : {X Y : Type 0} (f : X → Y) (m n : BTreeMap (String Global) X) (key : String Global) (x : X)

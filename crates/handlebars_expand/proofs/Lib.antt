@@ -1,9 +1,9 @@
-pub mod Handed
-pub mod HeardWalks
+pub mod Propagated
+pub mod TraceWalks
 pub mod Asked
 pub mod Bare
-pub mod LentBlocks
-pub mod Kept
+pub mod BorrowedBlocks
+pub mod Unchanged
 pub mod Evaluates
 pub mod LoneValues
 pub mod Located
@@ -14,4 +14,4 @@ pub mod Changed
 pub mod Nearest
 pub mod Bases
 pub mod Tags
-pub mod Lent
+pub mod Borrowed

@@ -1,4 +1,4 @@
--- Blocks of scope of which the nearest one was changed.
+-- Scope frames of which the nearest one was changed.
 use Rattle.std.proofs.Common.{◌≡◌, List, [], ◌∷◌, slice_get, slice_set, Option, Some, Result, Ok, Err, sym, refl, ap, ◌∙◌, subst}
 use Rattle.std.proofs.lemmas.Option.{none-some, same_Some}
 use Rattle.std.specs.Result.{OnErr, OnOk}
@@ -8,31 +8,31 @@ use Rattle.handlebars_template.specs.Tree.{Tree}
 use Rattle.handlebars_scope.specs.Scopes.{Frame}
 use Rattle.handlebars_scope.specs.ScopeView.{frame_of, frames_of}
 use Rattle.handlebars_scope.specs.declared.block.BlockContext.{BlockContext}
-use Rattle.handlebars_helpers.specs.Turns.{StandsBelow}
-use Rattle.handlebars_meaning.specs.State.{nearest_as, outer_frames, with_partial}
+use Rattle.handlebars_helpers.specs.Iterations.{IsBasedBelow}
+use Rattle.handlebars_semantics.specs.State.{nearest_as, outer_frames, with_partial}
 use Rattle.handlebars_expand.specs.View.{NearestBelow, without_partial, without_partials}
 
--- the nearest block, where there is one
-pub below-front : (path : Option (List Text)) (fs : List Frame) (f : Frame) → Some f ≡ slice_get fs 0 → NearestBelow path fs
-    → StandsBelow path f
-below-front path [] f is below = absurd (none-some f (sym is))
-below-front path (g ∷ gs) f is below = subst (StandsBelow path) (sym (same_Some f g is)) below
+-- the nearest frame, if there is one
+pub below-prefix : (path : Option (List Text)) (fs : List Frame) (f : Frame) → Some f ≡ slice_get fs 0 → NearestBelow path fs
+    → IsBasedBelow path f
+below-prefix path [] f is below = absurd (none-some f (sym is))
+below-prefix path (g ∷ gs) f is below = subst (IsBasedBelow path) (sym (same_Some f g is)) below
 
--- the blocks behind a change of the nearest one
-pub frames-turned : (change : Frame → Frame) (bs : List BlockContext) (f : Frame) (other : BlockContext)
+-- the frames after a change of the nearest one
+pub frames-changed : (change : Frame → Frame) (bs : List BlockContext) (f : Frame) (other : BlockContext)
     → Some f ≡ slice_get (frames_of bs) 0 → frame_of other ≡ change f
     → frames_of (slice_set bs 0 other) ≡ nearest_as change (frames_of bs)
-frames-turned change [] f other is changed = refl
-frames-turned change (b ∷ bs) f other is changed =
+frames-changed change [] f other is changed = refl
+frames-changed change (b ∷ bs) f other is changed =
     ap (λ (g : Frame). g ∷ frames_of bs) (changed ∙ ap change (same_Some f (frame_of b) is))
 
--- .. but for the nearest one
-pub outer-turned : (bs : List BlockContext) (other : BlockContext)
+-- .. without the nearest one
+pub outer-changed : (bs : List BlockContext) (other : BlockContext)
     → outer_frames (without_partials (frames_of (slice_set bs 0 other))) ≡ outer_frames (without_partials (frames_of bs))
-outer-turned [] other = refl
-outer-turned (b ∷ bs) other = refl
+outer-changed [] other = refl
+outer-changed (b ∷ bs) other = refl
 
--- .. where a partial was put there, or nothing was changed
+-- .. if a partial was put there, or nothing was changed
 pub without_partials-put : (name : Text) (t : Tree) (bs : List BlockContext) (f : Frame) (other : BlockContext)
     (r : Result (Unit {0}) AllocError) → Some f ≡ slice_get (frames_of bs) 0
     → OnOk r (frame_of other ≡ with_partial name t f) → OnErr r (frame_of other ≡ f)

@@ -11,7 +11,7 @@ use denote.Ref.{Bor}
 use Rattle.handlebars_base.specs.Bytes.{Text}
 use Rattle.handlebars_base.specs.PathAndData.{path_and_data}
 use Rattle.handlebars_base.specs.declared.json.value.path_and_json.PathAndJson.{PathAndJson}
-use Rattle.handlebars_expand.specs.View.{pairs_seen}
+use Rattle.handlebars_expand.specs.View.{hash_seen}
 
 -- the keys of a map of borrowed keys, and those of entries that own theirs
 abbrev pub borrowed : {X : Type 0} → List (Bor Text × X) → List Text
@@ -27,14 +27,14 @@ pub record Follows {X Y : Type 0} (es : List (Bor Text × X)) (all left : List (
   pub keys : borrowed es ≡ owned done
 
 -- the order of borrowed keys
-abbrev pub by_text : Bor Text → Bor Text → Ordering
-by_text a b = slice_cmp nat_cmp a.now b.now
+abbrev pub text_order : Bor Text → Bor Text → Ordering
+text_order a b = slice_cmp nat_cmp a.now b.now
 
 abbrev Above : Text → List Text → Type 0
 Above t ts = AllByRecursion (λ u. slice_cmp nat_cmp t u ≡ Greater) ts
 
 insert_entry-last : {X : Type 0} (es : List (Bor Text × X)) (k : Bor Text) (v : X) → Above k.now (borrowed es)
-    → insert_entry by_text es k v ≡ es ++ (k, v) ∷ []
+    → insert_entry text_order es k v ≡ es ++ (k, v) ∷ []
 insert_entry-last [] k v above = refl
 insert_entry-last (e ∷ es) k v above = rw above.0 (ap (λ z. e ∷ z) (insert_entry-last es k v above.1))
 
@@ -58,14 +58,14 @@ map-more : {A B : Type 0} (f : A → B) (xs : List A) (x : A) → map f (xs ++ x
 map-more f [] x = refl
 map-more f (y ∷ ys) x = ap (λ zs. f y ∷ zs) (map-more f ys x)
 
--- an element more, as definitions see it
+-- one more element, as definitions see it
 pub map-push : {A B : Type 0} (f : A → B) (xs ys : List A) (x : A) → ys ≡ xs ++ x ∷ [] → map f ys ≡ map f xs ++ f x ∷ []
 map-push f xs ys x is = ap (map f) is ∙ map-more f xs x
 
 module _ {X Y : Type 0} {es : List (Bor Text × X)} {all left rest : List (String Global × Y)}
     (key : String Global) (q : Y) (k : Bor Text) (v : X) (here : left ≡ (key, q) ∷ rest) (same : k.now ≡ string_bytes key)
     (ordered : IsStrictlySortedBy string_cmp (keys_of all)) (f : Follows es all left) where
-  pub inserted-last : insert_entry by_text es k v ≡ es ++ (k, v) ∷ []
+  pub inserted-last : insert_entry text_order es k v ≡ es ++ (k, v) ∷ []
   inserted-last =
       let split : all ≡ f.done ++ (key, q) ∷ rest = f.split ∙ ap (λ z. f.done ++ z) here in
       let above = above-owned f.done (key, q) rest
@@ -73,7 +73,7 @@ module _ {X Y : Type 0} {es : List (Bor Text × X)} {all left rest : List (Strin
       insert_entry-last es k v (subst (λ (z : Text). Above z (borrowed es)) (sym same)
       (subst (λ z. Above (string_bytes key) z) (sym f.keys) above))
 
-  pub follows-next : {new : List (Bor Text × X)} → new ≡ insert_entry by_text es k v → Follows new all rest
+  pub follows-next : {new : List (Bor Text × X)} → new ≡ insert_entry text_order es k v → Follows new all rest
   follows-next is = record {
     done = f.done ++ (key, q) ∷ [];
     split = f.split ∙ ap (λ z. f.done ++ z) here ∙ sym (append_assoc f.done ((key, q) ∷ []) rest);
@@ -82,8 +82,8 @@ module _ {X Y : Type 0} {es : List (Bor Text × X)} {all left rest : List (Strin
         ∙ sym (map-more (λ e. string_bytes e.0) f.done (key, q));
   }
 
--- the pairs behind one more
-pub pairs_seen-push : (es new : List (Bor Text × PathAndJson)) (k : Bor Text) (v : PathAndJson) (t : Text)
-    → new ≡ es ++ (k, v) ∷ [] → k.now ≡ t → pairs_seen new ≡ pairs_seen es ++ (t, path_and_data v) ∷ []
-pairs_seen-push es new k v t is same = map-push (λ h. (h.0.now, path_and_data h.1)) es new (k, v) is
-    ∙ ap (λ (z : Text). pairs_seen es ++ (z, path_and_data v) ∷ []) same
+-- the hash arguments after one more
+pub hash_seen-push : (es new : List (Bor Text × PathAndJson)) (k : Bor Text) (v : PathAndJson) (t : Text)
+    → new ≡ es ++ (k, v) ∷ [] → k.now ≡ t → hash_seen new ≡ hash_seen es ++ (t, path_and_data v) ∷ []
+hash_seen-push es new k v t is same = map-push (λ h. (h.0.now, path_and_data h.1)) es new (k, v) is
+    ∙ ap (λ (z : Text). hash_seen es ++ (z, path_and_data v) ∷ []) same

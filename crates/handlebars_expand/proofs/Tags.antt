@@ -13,7 +13,7 @@ pub decorator_marks-view : (t : DecoratorTemplate) → decorator_marks (decorato
     ≡ record { indent = option_map string_bytes (out-DecoratorTemplate t).indent; indent_before_write = (out-DecoratorTemplate t).indent_before_write }
 decorator_marks-view t = search (rules, the_lemmas)
 
--- the indentation of a tag, as it is lent
+-- the indentation of a tag, as it is borrowed
 pub indent-seen : (t : DecoratorTemplate) (o : Option (Bor (String Global)))
     → option_map (λ s. s.now) o ≡ (out-DecoratorTemplate t).indent
     → option_map (λ s. string_bytes s.now) o ≡ (decorator_marks (decorator_view t)).indent

@@ -7,24 +7,24 @@ use Rattle.serde_json.specs.Data.{string}
 use Rattle.serde_json.specs.View.{view}
 use Rattle.serde_json.specs.declared.value.Value as json
 use Rattle.serde_json.specs.declared.value.Value.{the_lemmas}
-use Rattle.handlebars_base.specs.Answers.{Answer, gives, refuses, Answers, answer_map}
+use Rattle.handlebars_base.specs.Answers.{Answer, gives, fails, Answers, answer_map}
 use Rattle.handlebars_base.specs.Bytes.{Text}
 use Rattle.handlebars_base.specs.PathAndData.{PathAndData}
 use Rattle.handlebars_base.specs.Reasons.{Refusal, out_of_memory, helper_not_found}
 use Rattle.handlebars_base.specs.RenderRefusals.{plain_refusal, reason_in, refusal_of}
 use Rattle.handlebars_base.specs.declared.error.render_error.RenderError.{RenderError}
 use Rattle.handlebars_base.specs.Scoped.{Found}
-use Rattle.handlebars_template.specs.Tree.{as_name, args, Call, call, call_args, call_binding, call_name, expression, Param, Params, param, Pairs, no_pairs, pair}
+use Rattle.handlebars_template.specs.Tree.{as_name, args, Call, call, call_args, call_binding, call_name, escaped_expression, Param, Params, param, Hash, no_hash, hash_pair}
 use Rattle.handlebars_template.specs.TreeView.{element_view, param_view, params_view, subexpression_view}
 use Rattle.handlebars_template.specs.declared.template.tree.Parameter.{Parameter}
 use Rattle.handlebars_template.specs.declared.template.tree.Subexpression.{Subexpression, out-Subexpression}
 use Rattle.handlebars_template.specs.declared.template.tree.BlockParam as tree
 use Rattle.handlebars_helpers.specs.CallView.{HelperView}
 use Rattle.handlebars_helpers.specs.Callee.{Callee, Target, built}
-use Rattle.handlebars_helpers.specs.Choice.{Kind, Choice, built_in_choice}
-use Rattle.handlebars_meaning.specs.Asks.{Asks, Then, ◌>>=◌, goes_on, is_refused}
-use Rattle.handlebars_meaning.specs.State.{Setting, State, helper_for}
-use Rattle.handlebars_meaning.specs.Values.{is_literal, as_written, choice_value, view_without_bodies, HasHelpedValue, HasRegisteredValue, HasInnerValue, HasView, HasWrittenValue, HaveValues, PairsHaveValues}
+use Rattle.handlebars_helpers.specs.Choice.{BuiltInKind, Choice, built_in_choice}
+use Rattle.handlebars_semantics.specs.Asks.{Asks, Then, ◌>>=◌, goes_on, first_fails}
+use Rattle.handlebars_semantics.specs.State.{Setting, State, helper_for}
+use Rattle.handlebars_semantics.specs.Values.{is_literal, as_written, choice_value, view_without_bodies, HasHelpedValue, HasRegisteredValue, HasInnerValue, HasView, HasWrittenValue, HaveValues, HashHasValues}
 use Rattle.handlebars_expand.specs.Boxed.{answer_of, error_of}
 use Rattle.handlebars_expand.specs.View.{Yields}
 use Rattle.handlebars_expand.specs.declared.boxed.BoxedError.{BoxedError}
@@ -45,13 +45,13 @@ params-here qs i q lt is = ap params_view (drop_more qs i q lt)
 pub params-past : (qs : List Parameter) (i : ℕ) → length qs ≤ i → params_view (drop i qs) ≡ params_view []
 params-past qs i over = ap params_view (drop_all i qs over)
 
--- ---- what calls say
+-- ---- what calls guarantee
 
--- an error that `?` hands on
-pub handed_on : {T : Type 0} (P : T → Type 0) (Q : RenderError → Type 0) (r : Result T BoxedError) (e : BoxedError)
+-- an error that `?` propagates
+pub propagated : {T : Type 0} (P : T → Type 0) (Q : RenderError → Type 0) (r : Result T BoxedError) (e : BoxedError)
     → IsErrAnd r (λ d. d ≡ e) → Q (error_of e) → MatchResult (answer_of r) P Q
-handed_on P Q (Ok x) e is h = absurd is
-handed_on P Q (Err d) e is h = subst (λ (z : BoxedError). Q (error_of z)) (sym is) h
+propagated P Q (Ok x) e is h = absurd is
+propagated P Q (Err d) e is h = subst (λ (z : BoxedError). Q (error_of z)) (sym is) h
 
 -- an answer that is known
 pub yields-answer : {T A : Type 0} (seen : T → A) (a : Answer A) (r : Result T RenderError) → Answers seen r a
@@ -59,7 +59,7 @@ pub yields-answer : {T A : Type 0} (seen : T → A) (a : Answer A) (r : Result T
 yields-answer seen a (Ok x) is = sym is
 yields-answer seen a (Err e) is = λ other. sym (is other)
 
--- what is asked behind a value
+-- what is asked after a value
 pub yields-then : {T A B : Type 0} (seen : T → B) (first : Asks A) (next : A → Asks B) {x : A}
     (r : Result T RenderError) → first (gives x) → Yields (next x) seen r → Yields (Then first next) seen r
 yields-then seen first next (Ok y) g is = goes_on g is
@@ -68,8 +68,8 @@ yields-then seen first next (Err e) g is = λ other. goes_on g (is other)
 -- ---- calls in parentheses
 
 module _ (p : Setting) (s : State) (v : HelperView) where
-  -- the value that a built-in helper chooses, where there is memory for it
-  pub yields-built : {T : Type 0} (seen : T → Found) (k : Kind) (choice : Choice) (r : Result T BoxedError)
+  -- the value that a built-in helper chooses, if there is memory for it
+  pub yields-built : {T : Type 0} (seen : T → Found) (k : BuiltInKind) (choice : Choice) (r : Result T BoxedError)
       → built_in_choice p.parts.strict k v ≡ gives choice → IfOk r (λ x. seen x ≡ choice_value choice)
       → IfErr r (λ e. reason_in (error_of e) ≡ out_of_memory)
       → Yields (HasRegisteredValue p s (built k) v) seen (answer_of r)
@@ -82,37 +82,37 @@ module _ (p : Setting) (s : State) (v : HelperView) where
       → o ≡ h → Yields (HasHelpedValue p s o v) seen r → Yields (HasHelpedValue p s h v) seen r
   yields-helped seen h r is y = subst (λ (z : Option Target). Yields (HasHelpedValue p s z v) seen r) is y
 
-  pub refuses-unknown : (h : Option Target) (e : RenderError) → None ≡ h
-      → refusal_of e ≡ plain_refusal (helper_not_found v.call.name) → HasHelpedValue p s h v (refuses (refusal_of e))
-  refuses-unknown h e is same =
-      subst (λ (z : Option Target). HasHelpedValue p s z v (refuses (refusal_of e))) is
-      (ap (λ (z : Refusal). refuses z) same)
+  pub fails-unknown : (h : Option Target) (e : RenderError) → None ≡ h
+      → refusal_of e ≡ plain_refusal (helper_not_found v.call.name) → HasHelpedValue p s h v (fails (refusal_of e))
+  fails-unknown h e is same =
+      subst (λ (z : Option Target). HasHelpedValue p s z v (fails (refusal_of e))) is
+      (ap (λ (z : Refusal). fails z) same)
 
-  -- the value for another view, or by a name that is known otherwise
+  -- the value for an equal view and an equal callee
   pub yields-for : {T : Type 0} (seen : T → Found) (k : Callee) {j : Callee} {w : HelperView} (r : Result T RenderError)
       → j ≡ k → w ≡ v → Yields (HasRegisteredValue p s j w) seen r → Yields (HasRegisteredValue p s k v) seen r
   yields-for seen k {w = w} r is same y =
       subst (λ (z : HelperView). Yields (HasRegisteredValue p s k z) seen r) same
       (subst (λ (z : Callee). Yields (HasRegisteredValue p s z w) seen r) is y)
 
--- What HasInnerValue says of a call, by the parts of the call.
+-- What `HasInnerValue` says of a call, by the parts of the call.
 pub inner_value-parts : (p : Setting) (s : State) (c : Call) {a : Answer Found}
     → (HasView p s (call_name c) (call_args c) >>= (λ v. HasHelpedValue p s
     (helper_for p.parts s false v.name) (view_without_bodies (call_binding c) v))) a
-    → HasInnerValue p s (expression c) a
+    → HasInnerValue p s (escaped_expression c) a
 inner_value-parts p s (call n (args ps hs) b t marks) h = h
 
 pub yields-inner_value : {T : Type 0} (seen : T → Found) (p : Setting) (s : State) (c : Call) (r : Result T RenderError)
     → Yields (HasView p s (call_name c) (call_args c) >>= (λ v. HasHelpedValue p s
     (helper_for p.parts s false v.name) (view_without_bodies (call_binding c) v))) seen r
-    → Yields (HasInnerValue p s (expression c)) seen r
+    → Yields (HasInnerValue p s (escaped_expression c)) seen r
 yields-inner_value seen p s c (Ok x) h = inner_value-parts p s c h
 yields-inner_value seen p s c (Err e) h = λ other. inner_value-parts p s c (h other)
 
 -- ---- parameters from an index on
 
 module _ (p : Setting) (s : State) where
-  -- What the rest has, the whole has behind the values so far; and what the rest refuses, it refuses.
+  -- What the rest yields, the whole yields after the values so far. Where the rest fails, the whole fails.
   pub record ParamsLeft (all left : Params) (so_far : List PathAndData) : Type 0 where
     pub so : (a : Answer (List PathAndData)) → HaveValues p s left a → HaveValues p s all (answer_map (λ vs. so_far ++ vs) a)
 
@@ -133,41 +133,41 @@ module _ (p : Setting) (s : State) where
             subst (λ (z : List PathAndData). HaveValues p s all (gives z)) (sym (append_assoc so_far (d ∷ []) vs))
             (x.so (gives (d ∷ vs)) (subst (λ (z : Params). HaveValues p s z (gives (d ∷ vs))) (sym here)
             (goes_on g (goes_on more refl))))
-        step (refuses r) more =
-            x.so (refuses r) (subst (λ (z : Params). HaveValues p s z (refuses r)) (sym here) (goes_on g (is_refused more)))
+        step (fails r) more =
+            x.so (fails r) (subst (λ (z : Params). HaveValues p s z (fails r)) (sym here) (goes_on g (first_fails more)))
 
-    pub params-over : {r : Refusal} → HasWrittenValue p s q (refuses r) → HaveValues p s all (refuses r)
+    pub params-over : {r : Refusal} → HasWrittenValue p s q (fails r) → HaveValues p s all (fails r)
     params-over {r = r} n =
-        x.so (refuses r) (subst (λ (z : Params). HaveValues p s z (refuses r)) (sym here) (is_refused n))
+        x.so (fails r) (subst (λ (z : Params). HaveValues p s z (fails r)) (sym here) (first_fails n))
 
-  -- the same of pairs
-  pub record PairsLeft (all left : Pairs) (so_far : List (Text × PathAndData)) : Type 0 where
-    pub so : (a : Answer (List (Text × PathAndData))) → PairsHaveValues p s left a → PairsHaveValues p s all (answer_map (λ vs. so_far ++ vs) a)
+  -- the same for hash arguments
+  pub record HashLeft (all left : Hash) (so_far : List (Text × PathAndData)) : Type 0 where
+    pub so : (a : Answer (List (Text × PathAndData))) → HashHasValues p s left a → HashHasValues p s all (answer_map (λ vs. so_far ++ vs) a)
 
-  pub pairs-end : (all : Pairs) {left : Pairs} {so_far : List (Text × PathAndData)} → left ≡ no_pairs
-      → PairsLeft all left so_far → PairsHaveValues p s all (gives so_far)
-  pairs-end all {so_far = so_far} is x =
-      subst (λ (z : List (Text × PathAndData)). PairsHaveValues p s all (gives z)) (append-nil so_far)
-      (x.so (gives []) (subst (λ (z : Pairs). PairsHaveValues p s z (gives [])) (sym is) refl))
+  pub hash-end : (all : Hash) {left : Hash} {so_far : List (Text × PathAndData)} → left ≡ no_hash
+      → HashLeft all left so_far → HashHasValues p s all (gives so_far)
+  hash-end all {so_far = so_far} is x =
+      subst (λ (z : List (Text × PathAndData)). HashHasValues p s all (gives z)) (append-nil so_far)
+      (x.so (gives []) (subst (λ (z : Hash). HashHasValues p s z (gives [])) (sym is) refl))
 
-  module _ (all : Pairs) {left rest : Pairs} {key : Text} {q : Param} {so_far : List (Text × PathAndData)}
-      (here : left ≡ pair key q rest) (x : PairsLeft all left so_far) where
-    pub pairs-go : (d : PathAndData) → HasWrittenValue p s q (gives d) → PairsLeft all rest (so_far ++ (key, d) ∷ [])
-    pairs-go d g = record { so = step }
+  module _ (all : Hash) {left rest : Hash} {key : Text} {q : Param} {so_far : List (Text × PathAndData)}
+      (here : left ≡ hash_pair key q rest) (x : HashLeft all left so_far) where
+    pub hash-go : (d : PathAndData) → HasWrittenValue p s q (gives d) → HashLeft all rest (so_far ++ (key, d) ∷ [])
+    hash-go d g = record { so = step }
       where
-        step : (a : Answer (List (Text × PathAndData))) → PairsHaveValues p s rest a
-            → PairsHaveValues p s all (answer_map (λ vs. (so_far ++ (key, d) ∷ []) ++ vs) a)
+        step : (a : Answer (List (Text × PathAndData))) → HashHasValues p s rest a
+            → HashHasValues p s all (answer_map (λ vs. (so_far ++ (key, d) ∷ []) ++ vs) a)
         step (gives vs) more =
-            subst (λ (z : List (Text × PathAndData)). PairsHaveValues p s all (gives z))
+            subst (λ (z : List (Text × PathAndData)). HashHasValues p s all (gives z))
             (sym (append_assoc so_far ((key, d) ∷ []) vs))
-            (x.so (gives ((key, d) ∷ vs)) (subst (λ (z : Pairs). PairsHaveValues p s z (gives ((key, d) ∷ vs))) (sym here)
+            (x.so (gives ((key, d) ∷ vs)) (subst (λ (z : Hash). HashHasValues p s z (gives ((key, d) ∷ vs))) (sym here)
             (goes_on g (goes_on more refl))))
-        step (refuses r) more =
-            x.so (refuses r) (subst (λ (z : Pairs). PairsHaveValues p s z (refuses r)) (sym here) (goes_on g (is_refused more)))
+        step (fails r) more =
+            x.so (fails r) (subst (λ (z : Hash). HashHasValues p s z (fails r)) (sym here) (goes_on g (first_fails more)))
 
-    pub pairs-over : {r : Refusal} → HasWrittenValue p s q (refuses r) → PairsHaveValues p s all (refuses r)
-    pairs-over {r = r} n =
-        x.so (refuses r) (subst (λ (z : Pairs). PairsHaveValues p s z (refuses r)) (sym here) (is_refused n))
+    pub hash-over : {r : Refusal} → HasWrittenValue p s q (fails r) → HashHasValues p s all (fails r)
+    hash-over {r = r} n =
+        x.so (fails r) (subst (λ (z : Hash). HashHasValues p s z (fails r)) (sym here) (first_fails n))
 
 -- ---- a parameter as it is written
 

@@ -1,4 +1,4 @@
--- What the blocks of a rendering in the code stand for, and what becomes of them where the nearest one is lent.
+-- The scope frames that the code's blocks represent, and what becomes of them when the nearest one is borrowed.
 use Rattle.std.specs.Prelude.{List, Option}
 use Rattle.std.specs.Borrow.{LendsIf, MutBor, Fml}
 use Rattle.std.specs.VecDeque.{deque_with_item}
@@ -13,13 +13,13 @@ use Rattle.handlebars_expand.specs.contracts.context.blocks.Blocks.{the_row}
 abbrev pub all_frames : Blocks → List Frame
 all_frames blocks = frames_of blocks.all.items
 
--- the blocks with another one as the nearest, where they have one
+-- the blocks with the nearest frame replaced, if there is one
 abbrev pub with_nearest_block : Blocks → BlockContext → Blocks
 with_nearest_block blocks w = record blocks {
   all = deque_with_item blocks.all 0 w;
   are_bare = bare-nearest blocks.bare blocks.all.items w blocks.are_bare;
 }
 
--- Without any block they stay as they are.
-abbrev pub LendsNearest : MutBor Blocks → Option (MutBor BlockContext) → Fml
-LendsNearest s r = LendsIf the_row block.the_row s r (with_nearest_block s.now) s.now
+-- Without any frame they are unchanged.
+abbrev pub BorrowsNearest : MutBor Blocks → Option (MutBor BlockContext) → Fml
+BorrowsNearest s r = LendsIf the_row block.the_row s r (with_nearest_block s.now) s.now

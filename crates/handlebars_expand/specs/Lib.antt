@@ -4,8 +4,8 @@ pub mod Boxed
 pub mod Targets
 pub mod Judgement
 pub mod Bound
-pub mod OwnChoice
+pub mod UserChoice
 pub mod Bare
 pub mod BlocksView
-pub mod Lending
+pub mod Borrowing
 pub mod Inclusions

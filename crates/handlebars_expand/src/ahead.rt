@@ -1,52 +1,52 @@
-//! What is rendered ahead for partial blocks, and then kept: its text, or each piece of it, where pieces are told.
+//! What is rendered ahead for partial blocks and then captured: its text, or each piece of it if pieces are emitted.
 
 ghost use Rattle.std.specs.Prelude.{◌≡◌, ◌++◌, ◌∷◌, [], IfOk, OnErr, OnOk, option_map};
-ghost use Rattle.handlebars_scope.specs.WayView.{names_in};
-ghost use Rattle.handlebars_expand.specs.PiecesView.{ahead_plain, ahead_told, kept_template, kept_told, origin_seen, path_seen, plain_text, template_seen, told_by, told_seen};
+ghost use Rattle.handlebars_scope.specs.ResolutionView.{names_in};
+ghost use Rattle.handlebars_expand.specs.PiecesView.{ahead_plain, ahead_emitted, captured_template, captured_emitted, origin_seen, path_seen, plain_text, template_seen, emitted_by, emitted_seen};
 
-use crate::pieces::{Origin, PieceKind, Spot, Standing, full_path};
+use crate::pieces::{Location, Origin, PieceKind, TemplateReference, full_path};
 use handlebars_base::output::StringOutput;
 use handlebars_scope::context::full_path::FullPath;
 use handlebars_template::template::TemplateMapping;
 use std::alloc::{AllocError, Global};
 
-/// What is rendered ahead.
+/// The output of what is rendered ahead.
 #[derive(Drop)]
 pub struct Ahead {
     pub text: StringOutput,
-    pub pieces: Vec<KeptPiece>,
+    pub pieces: Vec<CapturedPiece>,
 }
 
-/// What is kept of it.
+/// What is captured of a rendering ahead.
 #[derive(Drop)]
-pub struct Kept {
+pub struct Captured {
     pub text: String,
-    pub pieces: Vec<KeptPiece>,
+    pub pieces: Vec<CapturedPiece>,
 }
 
-/// A piece with its origin.
+/// A captured piece with its origin.
 #[derive(Drop)]
-pub struct KeptPiece {
+pub struct CapturedPiece {
     text: String,
     kind: PieceKind,
-    template: KeptStanding,
-    place: Option<TemplateMapping>,
-    turns: Vec<usize>,
+    template: CapturedTemplateReference,
+    position: Option<TemplateMapping>,
+    iterations: Vec<usize>,
     path: Option<Vec<String>>,
 }
 
-/// The template in which its element stands.
+/// The template that contains the element of a captured piece.
 #[derive(Drop)]
-pub enum KeptStanding {
+pub enum CapturedTemplateReference {
     First,
     Included(Option<String>),
 }
 
 impl Ahead {
-    /// Nothing yet; this takes no memory.
+    /// Returns an empty output. Takes no memory.
     pub fn new(alloc: Global) -> Ahead
         ensures text { ahead_plain result ≡ [] }
-        ensures told { ahead_told result ≡ [] }
+        ensures emitted { ahead_emitted result ≡ [] }
     {
         Ahead {
             text: StringOutput::new(alloc),
@@ -54,92 +54,106 @@ impl Ahead {
         }
     }
 
-    /// Keeps a piece.
-    pub fn keep(&mut self, alloc: Global, text: &str, origin: &Origin<'_>) -> Result<(), AllocError>
-        ensures ok { OnOk result (ahead_told self.new ≡ ahead_told self.old ++ told_seen text.now origin.now ∷ []) }
-        ensures err { OnErr result (ahead_told self.new ≡ ahead_told self.old) }
+    /// Captures a piece.
+    ///
+    /// # Errors
+    ///
+    /// Fails if memory runs out. The captured pieces are then unchanged.
+    pub fn capture(
+        &mut self,
+        alloc: Global,
+        text: &str,
+        origin: &Origin<'_>,
+    ) -> Result<(), AllocError>
+        ensures ok { OnOk result (ahead_emitted self.new ≡ ahead_emitted self.old ++ emitted_seen text.now origin.now ∷ []) }
+        ensures err { OnErr result (ahead_emitted self.new ≡ ahead_emitted self.old) }
     {
-        let piece = KeptPiece::of(alloc, text, origin)?;
+        let piece = CapturedPiece::of(alloc, text, origin)?;
         self.pieces.push(piece)?;
         Ok(())
     }
 
-    /// What was rendered.
-    pub fn into_kept(self) -> Kept
+    /// Returns what was rendered.
+    pub fn into_captured(self) -> Captured
         ensures text { plain_text result ≡ ahead_plain self }
-        ensures told { kept_told result ≡ ahead_told self }
+        ensures emitted { captured_emitted result ≡ ahead_emitted self }
     {
-        Kept {
+        Captured {
             text: self.text.into_string(),
             pieces: self.pieces,
         }
     }
 }
 
-impl KeptPiece {
-    fn of(alloc: Global, text: &str, origin: &Origin<'_>) -> Result<KeptPiece, AllocError>
-        ensures { IfOk result (λ piece. told_by piece ≡ told_seen text.now origin.now) }
+impl CapturedPiece {
+    fn of(alloc: Global, text: &str, origin: &Origin<'_>) -> Result<CapturedPiece, AllocError>
+        ensures { IfOk result (λ piece. emitted_by piece ≡ emitted_seen text.now origin.now) }
     {
-        Ok(KeptPiece {
+        Ok(CapturedPiece {
             text: String::from_str(alloc, text)?,
             kind: origin.kind,
-            template: kept_standing(alloc, origin.spot.template)?,
-            place: origin.spot.place.copied(),
-            turns: copied_turns(alloc, origin.spot.turns)?,
+            template: captured_template_reference(alloc, origin.location.template)?,
+            position: origin.location.position.copied(),
+            iterations: copied_iterations(alloc, origin.location.iterations)?,
             path: copied_path(alloc, origin.path)?,
         })
     }
 
-    /// Its text.
+    /// Returns the text of the piece.
     pub fn text(&self) -> &str
-        ensures { result.now ≡ (told_by self.now).text }
+        ensures { result.now ≡ (emitted_by self.now).text }
     {
         self.text.as_str()
     }
 
-    /// Where it comes from.
+    /// Returns the origin of the piece.
     pub fn origin(&self) -> Origin<'_>
-        ensures { origin_seen result ≡ (told_by self.now).provenance }
+        ensures { origin_seen result ≡ (emitted_by self.now).provenance }
     {
         Origin {
             kind: self.kind,
-            spot: Spot {
-                template: standing(&self.template),
-                place: self.place.as_ref(),
-                turns: self.turns.as_slice(),
+            location: Location {
+                template: template_reference(&self.template),
+                position: self.position.as_ref(),
+                iterations: self.iterations.as_slice(),
             },
             path: full_path(self.path.as_ref()),
         }
     }
 }
 
-fn kept_standing(alloc: Global, template: Standing<'_>) -> Result<KeptStanding, AllocError>
-    ensures { IfOk result (λ kept. kept_template kept ≡ template_seen template.entry) }
+fn captured_template_reference(
+    alloc: Global,
+    template: TemplateReference<'_>,
+) -> Result<CapturedTemplateReference, AllocError>
+    ensures { IfOk result (λ captured. captured_template captured ≡ template_seen template.entry) }
 {
     match template {
-        Standing::First => Ok(KeptStanding::First),
-        Standing::Included(None) => Ok(KeptStanding::Included(None)),
-        Standing::Included(Some(name)) => {
-            Ok(KeptStanding::Included(Some(String::from_str(alloc, name)?)))
+        TemplateReference::First => Ok(CapturedTemplateReference::First),
+        TemplateReference::Included(None) => Ok(CapturedTemplateReference::Included(None)),
+        TemplateReference::Included(Some(name)) => {
+            Ok(CapturedTemplateReference::Included(Some(String::from_str(alloc, name)?)))
         }
     }
 }
 
-fn standing(kept: &KeptStanding) -> Standing<'_>
-    ensures { template_seen result ≡ kept_template kept.now }
+fn template_reference(captured: &CapturedTemplateReference) -> TemplateReference<'_>
+    ensures { template_seen result ≡ captured_template captured.now }
 {
-    match kept {
-        KeptStanding::First => Standing::First,
-        KeptStanding::Included(None) => Standing::Included(None),
-        KeptStanding::Included(Some(name)) => Standing::Included(Some(name.as_str())),
+    match captured {
+        CapturedTemplateReference::First => TemplateReference::First,
+        CapturedTemplateReference::Included(None) => TemplateReference::Included(None),
+        CapturedTemplateReference::Included(Some(name)) => TemplateReference::Included(Some(
+            name.as_str(),
+        )),
     }
 }
 
-fn copied_turns(alloc: Global, turns: &[usize]) -> Result<Vec<usize>, AllocError>
-    ensures { IfOk result (λ copy. copy.items ≡ turns.now) }
+fn copied_iterations(alloc: Global, iterations: &[usize]) -> Result<Vec<usize>, AllocError>
+    ensures { IfOk result (λ copy. copy.items ≡ iterations.now) }
 {
     let mut copy = Vec::new(alloc);
-    copy.extend_from_slice(turns)?;
+    copy.extend_from_slice(iterations)?;
     Ok(copy)
 }
 

@@ -1,4 +1,4 @@
-//! What calls go to: a callee, the name that it is asked by, and the call with the constants of a local helper.
+//! What calls are dispatched to: a callee, the name that it is asked by, and the call with the constants of a local helper.
 
 ghost use Rattle.std.specs.Prelude.{◌≡◌, IfOk, map, option_map, unwrap_or};
 ghost use Rattle.std.specs.Cow.{cow_str_bytes};
@@ -6,11 +6,11 @@ ghost use Rattle.serde_json.specs.View.{view};
 ghost use Rattle.handlebars_base.specs.Answers.{Answers};
 ghost use Rattle.handlebars_base.specs.PathAndData.{path_and_data};
 ghost use Rattle.handlebars_helpers.specs.CallView.{HelperView, plain_value, with_constants};
-ghost use Rattle.handlebars_helpers.specs.OwnView.{callee_of, local_of};
+ghost use Rattle.handlebars_helpers.specs.UserView.{callee_of, local_of};
 ghost use Rattle.handlebars_helpers.specs.View.{helper_view};
-ghost use Rattle.handlebars_meaning.specs.State.{bound_call, local_call};
+ghost use Rattle.handlebars_semantics.specs.State.{bound_call, local_call};
 ghost use Rattle.handlebars_expand.specs.Boxed.{answer_of};
-ghost use Rattle.handlebars_expand.specs.Bound.{GoesTo, bound_of, call_of};
+ghost use Rattle.handlebars_expand.specs.Bound.{GoesTo, bound_call_of, dispatch};
 ghost use Rattle.handlebars_expand.specs.Targets.{target_in};
 ghost use Rattle.handlebars_expand.specs.Judgement.{InState};
 ghost use Rattle.handlebars_expand.specs.View.{called_view, state_of};
@@ -21,20 +21,20 @@ use crate::context::RenderContext;
 use crate::environment::Environment;
 use crate::registered::{Registered, Target, hook};
 use handlebars_base::json::value::{Json, PathAndJson, ScopedJson};
-use handlebars_helpers::own::{Callee, LocalHelper};
+use handlebars_helpers::user::{Callee, LocalHelper};
 use handlebars_helpers::view::Helper;
 use std::alloc::{AllocError, Global};
 use std::borrow::CowStr;
 
-/// What a call goes to, the name that a helper of one's own is asked by, where that isn't the call's, and the call, with the
-/// constants of a local helper before its parameters.
+/// A call with its callee. `asked_by` is the name that a user-defined helper is asked by, if it isn't the call's name. The
+/// constants of a local helper come before the parameters of the call.
 pub struct BoundCall<'a> {
     pub callee: Callee,
     pub asked_by: Option<CowStr<'a>>,
     pub call: Called<'a>,
 }
 
-// By hand, so that each place that lets one go is one call.
+// Implemented explicitly, so that dropping one is a single call.
 impl<'a> Drop for BoundCall<'a> {
     fn drop(self) {
         let BoundCall {
@@ -46,7 +46,7 @@ impl<'a> Drop for BoundCall<'a> {
 }
 
 impl<'a> BoundCall<'a> {
-    /// Its parts.
+    /// Returns the callee, the name that it is asked by, and the call.
     pub fn into_parts(self) -> (Callee, Option<CowStr<'a>>, Called<'a>)
         ensures { result ≡ (self.entry.callee, self.entry.asked_by, self.entry.call) }
     {
@@ -59,7 +59,7 @@ impl<'a> BoundCall<'a> {
     }
 }
 
-/// The name that a helper of one's own is asked by: this one, or that of the call.
+/// Returns the name that a user-defined helper is asked by: `asked_by`, or else the name of the call.
 pub fn asked_name<'n>(asked_by: &'n Option<CowStr>, view: &'n Helper) -> &'n str
     ensures { result.now ≡ unwrap_or (option_map cow_str_bytes asked_by.now) (helper_view view.now).call.name }
 {
@@ -69,7 +69,12 @@ pub fn asked_name<'n>(asked_by: &'n Option<CowStr>, view: &'n Helper) -> &'n str
     }
 }
 
-/// What a call of this target goes to, of a block or not.
+/// Binds a call, of a block or not, to the callee of its target.
+///
+/// # Errors
+///
+/// Fails with `HelperNotFound` if the target is a local helper that doesn't exist, or under whose registered name no helper is
+/// registered.
 pub fn bind<'a, P: Registered>(
     environment: &Environment<P>,
     rc: &RenderContext,
@@ -77,7 +82,7 @@ pub fn bind<'a, P: Registered>(
     block: bool,
     call: Called<'a>,
 ) -> Result<BoundCall<'a>, BoxedError>
-    ensures { (h : HelperView) → Answers (bound_of h) (answer_of result) (call_of (P.parts environment.now.parts.now) (state_of rc.now).local
+    ensures { (h : HelperView) → Answers (bound_call_of h) (answer_of result) (dispatch (P.parts environment.now.parts.now) (state_of rc.now).local
         (target_in block (called_view call.entry).name target) (record h { call = called_view call.entry })) }
 {
     match target {
@@ -100,13 +105,13 @@ pub fn bind<'a, P: Registered>(
     }
 }
 
-// What the local helper of a call's name goes to.
+// Binds a call to the local helper of its name.
 fn bind_local<'a, P: Registered>(
     environment: &Environment<P>,
     rc: &RenderContext,
     call: Called<'a>,
 ) -> Result<BoundCall<'a>, BoxedError>
-    ensures { (h : HelperView) → Answers (bound_of h) (answer_of result) (local_call (P.parts environment.now.parts.now)
+    ensures { (h : HelperView) → Answers (bound_call_of h) (answer_of result) (local_call (P.parts environment.now.parts.now)
         ((state_of rc.now).local (called_view call.entry).name) (called_view call.entry).name
         (record h { call = called_view call.entry })) }
 {
@@ -116,13 +121,13 @@ fn bind_local<'a, P: Registered>(
     }
 }
 
-// What this local helper goes to: what is registered under its name there, if anything still is.
+// Binds a call to what is registered under the name that the local helper holds, if anything still is.
 fn bind_to<'a, P: Registered>(
     environment: &Environment<P>,
     helper: &LocalHelper,
     call: Called<'a>,
 ) -> Result<BoundCall<'a>, BoxedError>
-    ensures { (h : HelperView) → Answers (bound_of h) (answer_of result) (bound_call (local_of helper.now)
+    ensures { (h : HelperView) → Answers (bound_call_of h) (answer_of result) (bound_call (local_of helper.now)
         (record h { call = called_view call.entry }) ((P.parts environment.now.parts.now).helper (local_of helper.now).registered)) }
 {
     match environment.parts.helper(helper.registered.as_str()) {
@@ -137,12 +142,12 @@ fn bound<'a>(
     callee: Callee,
     call: Called<'a>,
 ) -> Result<BoundCall<'a>, AllocError>
-    ensures { IfOk result (λ b. (h : HelperView) → bound_of h b ≡ (
+    ensures { IfOk result (λ b. (h : HelperView) → bound_call_of h b ≡ (
       callee_of (local_of helper.now).registered callee,
       with_constants (local_of helper.now).constants (record h { call = called_view call.entry }),
     )) }
 {
-    let call = call.behind(plain_values(alloc, &helper.constants)?)?;
+    let call = call.after(plain_values(alloc, &helper.constants)?)?;
     Ok(BoundCall {
         callee,
         asked_by: Some(CowStr::Owned(helper.registered.clone()?)),
@@ -150,7 +155,7 @@ fn bound<'a>(
     })
 }
 
-// Copies of values, which no text and no path of the template leads to.
+// Copies of values, which have no text and no path in the template.
 fn plain_values<'a>(
     alloc: Global,
     constants: &Vec<Json>,
@@ -170,7 +175,7 @@ fn plain<'a>(constant: Json) -> PathAndJson<'a>
     PathAndJson::new(None, ScopedJson::Derived(constant))
 }
 
-/// What a call goes to, in a box.
+/// Binds a call as `bind` does, and boxes it.
 #[inline(never)]
 pub fn bind_boxed<'a, P: Registered>(
     environment: &Environment<P>,

@@ -1,15 +1,15 @@
-//! A refusal on its way through a rendering.
+//! An error that is propagated through a rendering.
 
 ghost use Rattle.std.specs.Prelude.{◌≡◌, ◌≢◌, IfOk, option_map, string_bytes};
 ghost use Rattle.handlebars_base.specs.Reasons.{out_of_memory};
-ghost use Rattle.handlebars_base.specs.RenderRefusals.{reason_in, spot_of, cause_of, name_if_none, place_if_none};
-ghost use Rattle.handlebars_expand.specs.Boxed.{error_of, IsHandedOn};
+ghost use Rattle.handlebars_base.specs.RenderRefusals.{reason_in, location_of, cause_of, name_if_none, position_if_none};
+ghost use Rattle.handlebars_expand.specs.Boxed.{error_of, IsPropagated};
 
 use handlebars_base::error::{RenderError, RenderErrorReason};
 use std::alloc::{AllocError, AllocFailed, Global};
 
-/// An error of which a call's answer holds a word or two, so that answers without one cost little. Where the
-/// box found no memory, that is the error.
+/// An error that takes one or two machine words of a call's result, so that results without an error cost little. If the box
+/// cannot be allocated, the error is out of memory.
 #[derive(Drop)]
 pub enum BoxedError {
     OutOfMemory,
@@ -17,11 +17,12 @@ pub enum BoxedError {
 }
 
 impl BoxedError {
-    /// The error in a box, or want of memory for it. Its callers have no room for an error until there is one.
+    /// Boxes an error. Returns `OutOfMemory` if the box cannot be allocated. Callers reserve no stack space for an error until
+    /// there is one.
     #[cold]
     #[inline(never)]
     pub fn new(alloc: Global, error: RenderError) -> BoxedError
-        ensures { IsHandedOn error (error_of result) }
+        ensures { IsPropagated error (error_of result) }
     {
         match Box::new(alloc, error) {
             Ok(error) => BoxedError::Error(error),
@@ -29,9 +30,9 @@ impl BoxedError {
         }
     }
 
-    /// The error out of its box.
+    /// Returns the error out of its box.
     pub fn into_error(self) -> RenderError
-        ensures { IsHandedOn (error_of self) result }
+        ensures { IsPropagated (error_of self) result }
     {
         match self {
             BoxedError::OutOfMemory => RenderErrorReason::OutOfMemory.into(),
@@ -39,10 +40,10 @@ impl BoxedError {
         }
     }
 
-    /// With the position of an element, where no line is known yet.
+    /// Adds the line and column of an element, if the error has no line yet.
     pub fn at(self, line: usize, column: usize) -> BoxedError
-        ensures spot { reason_in (error_of result) ≢ out_of_memory
-            → spot_of (error_of result) ≡ place_if_none line column (spot_of (error_of self)) }
+        ensures location { reason_in (error_of result) ≢ out_of_memory
+            → location_of (error_of result) ≡ position_if_none line column (location_of (error_of self)) }
         ensures cause { cause_of (error_of result) ≡ cause_of (error_of self) }
     {
         match self {
@@ -57,10 +58,11 @@ impl BoxedError {
         }
     }
 
-    /// With the name of a template, or none, in place of its own. Where a copy of it finds no memory, that is the error.
+    /// Replaces the template name of the error by `name`, which may be none. If `name` cannot be copied, the error becomes out
+    /// of memory.
     pub fn renamed(self, name: &Option<String>) -> BoxedError
-        ensures spot { reason_in (error_of result) ≢ out_of_memory → spot_of (error_of result)
-            ≡ record (spot_of (error_of self)) { name = option_map string_bytes name.now } }
+        ensures location { reason_in (error_of result) ≢ out_of_memory → location_of (error_of result)
+            ≡ record (location_of (error_of self)) { name = option_map string_bytes name.now } }
         ensures cause { reason_in (error_of result) ≢ out_of_memory → cause_of (error_of result) ≡ cause_of (error_of self) }
         ensures memory { reason_in (error_of self) ≡ out_of_memory → reason_in (error_of result) ≡ out_of_memory }
     {
@@ -76,10 +78,10 @@ impl BoxedError {
         }
     }
 
-    /// With the name of a template, where none is known yet. Where a copy of it finds no memory, that is the error.
+    /// Adds the name of a template, if the error has none yet. If the name cannot be copied, the error becomes out of memory.
     pub fn in_template(self, alloc: Global, name: &String) -> BoxedError
-        ensures spot { reason_in (error_of result) ≢ out_of_memory
-            → spot_of (error_of result) ≡ name_if_none (string_bytes name.now) (spot_of (error_of self)) }
+        ensures location { reason_in (error_of result) ≢ out_of_memory
+            → location_of (error_of result) ≡ name_if_none (string_bytes name.now) (location_of (error_of self)) }
         ensures cause { reason_in (error_of result) ≢ out_of_memory → cause_of (error_of result) ≡ cause_of (error_of self) }
         ensures memory { reason_in (error_of self) ≡ out_of_memory → reason_in (error_of result) ≡ out_of_memory }
     {
@@ -98,7 +100,7 @@ impl BoxedError {
     }
 }
 
-// A copy of a name, where there is one.
+// Copies a name, if there is one.
 fn copied(name: &Option<String>) -> Result<Option<String>, AllocError>
     ensures { IfOk result (λ copy. option_map string_bytes copy ≡ option_map string_bytes name.now) }
 {
@@ -116,7 +118,7 @@ impl From<AllocError> for BoxedError {
     }
 }
 
-// A push, or another request for memory, gives back what found no place.
+// A push or another allocation that fails returns the value that it could not store.
 impl<T: Drop> From<AllocFailed<T>> for BoxedError {
     ghost from_gives = { λ _ e. reason_in (error_of e) ≡ out_of_memory };
 

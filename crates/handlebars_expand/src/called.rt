@@ -1,4 +1,4 @@
-//! What a call or another tag shows of itself, and what a call in parentheses comes to.
+//! The view of a call or of another tag, and the value of a call in parentheses.
 
 ghost use Rattle.std.specs.Prelude.{◌≡◌, ◌++◌, ◌∷◌, [], IfErr, IfOk, Some, false, map, option_map, string_bytes};
 ghost use Rattle.std.specs.Cow.{cow_str_bytes};
@@ -12,12 +12,12 @@ ghost use Rattle.handlebars_template.specs.Tree.{call_binding, decorator_args, d
 ghost use Rattle.handlebars_template.specs.TreeView.{call_view, decorator_view};
 ghost use Rattle.handlebars_helpers.specs.DecoratorsView.{tag_view};
 ghost use Rattle.handlebars_helpers.specs.Callee.{built};
-ghost use Rattle.handlebars_helpers.specs.View.{choice_of, helper_view, kind_of};
-ghost use Rattle.handlebars_meaning.specs.CarryOut.{view_with_bodies};
-ghost use Rattle.handlebars_meaning.specs.Inclusion.{joined_indent};
-ghost use Rattle.handlebars_meaning.specs.Means.{shown_tag};
-ghost use Rattle.handlebars_meaning.specs.State.{State, helper_for};
-ghost use Rattle.handlebars_meaning.specs.Values.{HasHelpedValue, HasRegisteredValue, HasView, choice_value, view_without_bodies};
+ghost use Rattle.handlebars_helpers.specs.View.{choice_view, helper_view, built_in_kind};
+ghost use Rattle.handlebars_semantics.specs.Execute.{view_with_bodies};
+ghost use Rattle.handlebars_semantics.specs.Inclusion.{joined_indent};
+ghost use Rattle.handlebars_semantics.specs.Means.{shown_tag};
+ghost use Rattle.handlebars_semantics.specs.State.{State, helper_for};
+ghost use Rattle.handlebars_semantics.specs.Values.{HasHelpedValue, HasRegisteredValue, HasView, choice_value, view_without_bodies};
 ghost use Rattle.handlebars_expand.specs.Boxed.{answer_of, error_of};
 ghost use Rattle.handlebars_expand.specs.Bound.{callee_in};
 ghost use Rattle.handlebars_expand.specs.Targets.{target_in};
@@ -28,15 +28,15 @@ use crate::bound::{BoundCall, asked_name, bind};
 use crate::boxed::BoxedError;
 use crate::context::RenderContext;
 use crate::environment::Environment;
-use crate::own::own_value;
 use crate::registered::{Registered, Target, helper_for};
-use crate::value::{expand_as_name, pairs_values, params_values};
+use crate::user::user_value;
+use crate::value::{expand_as_name, hash_values, params_values};
 use handlebars_base::error::RenderErrorReason;
 use handlebars_base::json::value::{Json, PathAndJson, ScopedJson};
 use handlebars_helpers::built_in::BuiltIn;
 use handlebars_helpers::choice::{Choice, choose};
 use handlebars_helpers::decorators::view::Decorator;
-use handlebars_helpers::own::Callee;
+use handlebars_helpers::user::Callee;
 use handlebars_helpers::view::Helper;
 use handlebars_template::template::{DecoratorTemplate, HelperTemplate};
 use serde_json::Number;
@@ -44,14 +44,14 @@ use std::alloc::{AllocError, Global};
 use std::borrow::CowStr;
 use std::collections::BTreeMap;
 
-/// The name of a call or of another tag, and the values of its parameters and pairs.
+/// The name of a call or of another tag, and the values of its parameters and hash arguments.
 pub struct Called<'a> {
     pub name: CowStr<'a>,
     pub params: Vec<PathAndJson<'a>>,
     pub hash: BTreeMap<&'a str, PathAndJson<'a>>,
 }
 
-// By hand, so that each place that lets one go is one call.
+// Implemented explicitly, so that dropping one is a single call.
 impl<'a> Drop for Called<'a> {
     fn drop(self) {
         let Called {
@@ -63,7 +63,7 @@ impl<'a> Drop for Called<'a> {
 }
 
 impl<'a> Called<'a> {
-    /// A name alone, with no parameters.
+    /// Returns a call by a name alone, with no parameters.
     pub fn alone(alloc: Global, name: CowStr<'a>) -> Called<'a>
         ensures { called_view result ≡ name_alone (cow_str_bytes name.entry) }
     {
@@ -74,7 +74,7 @@ impl<'a> Called<'a> {
         }
     }
 
-    /// What a helper sees of a call, of a block or of an expression: beside its values its bodies.
+    /// Returns what a helper sees of a call, of a block or of an expression: its values and its bodies.
     pub fn of_call(self, helper: &'a HelperTemplate, block: bool) -> Helper<'a>
         ensures { helper_view result ≡ view_with_bodies block (call_view helper.now) (called_view self.entry) }
     {
@@ -90,7 +90,7 @@ impl<'a> Called<'a> {
         )
     }
 
-    /// What a helper sees of a call in parentheses, whose bodies count as absent.
+    /// Returns what a helper sees of a call in parentheses, whose bodies count as absent.
     pub fn in_parentheses(self, helper: &'a HelperTemplate) -> Helper<'a>
         ensures { helper_view result ≡ view_without_bodies (call_binding (call_view helper.now)) (called_view self.entry) }
     {
@@ -106,8 +106,8 @@ impl<'a> Called<'a> {
         )
     }
 
-    /// What a decorator or an inclusion sees of a tag: beside its values its body, and its indentation, which is the one in
-    /// force followed by the tag's own.
+    /// Returns what a decorator or an inclusion sees of a tag: its values, its body and its indentation. The indentation is the
+    /// one in force, followed by the tag's own.
     #[inline(always)]
     pub fn of_tag(
         self,
@@ -134,7 +134,7 @@ impl<'a> Called<'a> {
         Decorator::new(name, params, hash, tag.template.as_ref(), indent)
     }
 
-    /// The call with this value as its one parameter.
+    /// Returns the call with this value as its only parameter.
     pub fn over(self, alloc: Global, value: PathAndJson<'a>) -> Result<Called<'a>, AllocError>
         ensures { IfOk result (λ call. called_view call
             ≡ record (called_view self.entry) { params = path_and_data value.entry ∷ [] }) }
@@ -149,8 +149,8 @@ impl<'a> Called<'a> {
         Ok(Called { name, params, hash })
     }
 
-    /// The call with these values before its parameters.
-    pub fn behind(self, values: Vec<PathAndJson<'a>>) -> Result<Called<'a>, AllocError>
+    /// Returns the call with these values before its parameters.
+    pub fn after(self, values: Vec<PathAndJson<'a>>) -> Result<Called<'a>, AllocError>
         ensures { IfOk result (λ call. called_view call ≡ record (called_view self.entry) {
           params = map path_and_data values.entry.items ++ (called_view self.entry).params;
         }) }
@@ -170,36 +170,36 @@ impl<'a> Called<'a> {
     }
 }
 
-// An indentation, followed by a tag's own, where there is one. The tag's own alone is borrowed.
+// The indentation in force, followed by the tag's own if there is one. If only the tag's own exists, it is borrowed.
 fn joined_indent<'a>(
     alloc: Global,
     in_force: Option<&str>,
-    own: Option<&'a String>,
+    tag_indent: Option<&'a String>,
 ) -> Result<Option<CowStr<'a>>, AllocError>
     ensures { IfOk result (λ indent. option_map cow_str_bytes indent
-        ≡ joined_indent (option_map (λ t. t.now) in_force.entry) (option_map (λ t. string_bytes t.now) own.entry)) }
+        ≡ joined_indent (option_map (λ t. t.now) in_force.entry) (option_map (λ t. string_bytes t.now) tag_indent.entry)) }
 {
     match in_force {
-        Some(outer) => Ok(Some(CowStr::Owned(behind(alloc, outer, own)?))),
-        None => match own {
-            Some(own) => Ok(Some(CowStr::Borrowed(own.as_str()))),
+        Some(outer) => Ok(Some(CowStr::Owned(after(alloc, outer, tag_indent)?))),
+        None => match tag_indent {
+            Some(tag_indent) => Ok(Some(CowStr::Borrowed(tag_indent.as_str()))),
             None => Ok(None),
         },
     }
 }
 
-fn behind(alloc: Global, outer: &str, own: Option<&String>) -> Result<String, AllocError>
+fn after(alloc: Global, outer: &str, tag_indent: Option<&String>) -> Result<String, AllocError>
     ensures { IfOk result (λ s. Some (string_bytes s)
-        ≡ joined_indent (Some outer.now) (option_map (λ t. string_bytes t.now) own.entry)) }
+        ≡ joined_indent (Some outer.now) (option_map (λ t. string_bytes t.now) tag_indent.entry)) }
 {
     let mut all = String::from_str(alloc, outer)?;
-    if let Some(own) = own {
-        all.push_str(own.as_str())?;
+    if let Some(tag_indent) = tag_indent {
+        all.push_str(tag_indent.as_str())?;
     }
     Ok(all)
 }
 
-/// The view of a decorator or an inclusion.
+/// Returns the view of a decorator or an inclusion.
 #[inline(always)]
 pub fn view_of_tag<'a, P: Registered>(
     environment: &Environment<'_, 'a, P>,
@@ -212,12 +212,16 @@ pub fn view_of_tag<'a, P: Registered>(
 {
     let name = expand_as_name(environment, rc, &tag.name)?;
     let params = params_values(environment, rc, &tag.params)?;
-    let hash = pairs_values(environment, rc, &tag.hash)?;
+    let hash = hash_values(environment, rc, &tag.hash)?;
     Ok(Called { name, params, hash })
 }
 
-/// The value of a call in parentheses: the one that its helper chooses, which is copied; anything
-/// else that it chooses writes nothing there. A line of `log` goes to the logger.
+/// Returns the value of a call in parentheses: a copy of the value that its helper chooses. Any other choice writes nothing
+/// here. A line of `log` goes to the logger.
+///
+/// # Errors
+///
+/// Fails with `HelperNotFound` if there is neither a helper of the name nor the hook, and otherwise if the helper fails.
 pub fn helped_value<'a, 'c, P: Registered>(
     environment: &Environment<P>,
     rc: &RenderContext,
@@ -254,7 +258,7 @@ fn target_value<'a, 'c, P: Registered>(
     }
 }
 
-// The value of what a call goes to.
+// The value of a bound call.
 fn bound_value<'a, 'c, P: Registered>(
     environment: &Environment<P>,
     rc: &RenderContext,
@@ -270,7 +274,7 @@ fn bound_value<'a, 'c, P: Registered>(
     let view = call.in_parentheses(helper);
     match callee {
         Callee::Built(kind) => built_value(environment, kind, &view),
-        Callee::Own => own_value(environment, rc, asked_name(&asked_by, &view), &view),
+        Callee::Own => user_value(environment, rc, asked_name(&asked_by, &view), &view),
     }
 }
 
@@ -281,7 +285,7 @@ fn built_value<'a, P: Registered>(
     view: &Helper,
 ) -> Result<ScopedJson<'a>, BoxedError>
     ensures value { (s : State) → Yields
-        (HasRegisteredValue (setting_in P.parts environment.now) s (built (kind_of kind)) (helper_view view.now)) found_of (answer_of result) }
+        (HasRegisteredValue (setting_in P.parts environment.now) s (built (built_in_kind kind)) (helper_view view.now)) found_of (answer_of result) }
     ensures constant { IfOk result (λ found. is_constant found ≡ false) }
 {
     match choose(environment.alloc, environment.parts.strict(), kind, view) {
@@ -295,7 +299,7 @@ fn chosen_value<'a, P: Registered>(
     environment: &Environment<P>,
     choice: &Choice,
 ) -> Result<ScopedJson<'a>, BoxedError>
-    ensures value { IfOk result (λ found. found_of found ≡ choice_value (choice_of choice.now)) }
+    ensures value { IfOk result (λ found. found_of found ≡ choice_value (choice_view choice.now)) }
     ensures memory { IfErr result (λ e. reason_in (error_of e) ≡ out_of_memory) }
     ensures constant { IfOk result (λ found. is_constant found ≡ false) }
 {
@@ -303,7 +307,7 @@ fn chosen_value<'a, P: Registered>(
         Choice::Value(Some(value)) => Ok(ScopedJson::Derived((*value).clone()?)),
         Choice::Value(None) => Ok(ScopedJson::Derived(Json::Null)),
         Choice::Count(count) => Ok(ScopedJson::Derived(Json::Number(Number::from(*count)))),
-        Choice::Word(word) => Ok(ScopedJson::Derived(Json::Bool(*word))),
+        Choice::Boolean(boolean) => Ok(ScopedJson::Derived(Json::Bool(*boolean))),
         Choice::Line(level, text) => {
             environment.parts.log(*level, text.as_str());
             Ok(empty_text(environment.alloc))
@@ -317,7 +321,7 @@ fn chosen_value<'a, P: Registered>(
     }
 }
 
-// The value of what writes nothing.
+// The value of a call that writes nothing.
 pub fn empty_text<'a>(alloc: Global) -> ScopedJson<'a>
     ensures value { found_of result ≡ value (string []) }
     ensures constant { is_constant result ≡ false }
@@ -325,7 +329,7 @@ pub fn empty_text<'a>(alloc: Global) -> ScopedJson<'a>
     ScopedJson::Derived(Json::String(String::new(alloc)))
 }
 
-/// The refusal of a name that no helper has.
+/// Returns the `HelperNotFound` error for a name, or out of memory.
 #[cold]
 #[inline(never)]
 pub fn helper_not_found(alloc: Global, name: &str) -> BoxedError

@@ -6,10 +6,10 @@ ghost use Rattle.serde_json.specs.View.{view};
 ghost use Rattle.handlebars_template.specs.TreeView.{tree_view};
 ghost use Rattle.handlebars_scope.specs.Contexts.{data_of};
 ghost use Rattle.handlebars_scope.specs.ScopeView.{frame_of, frames_of};
-ghost use Rattle.handlebars_helpers.specs.OwnView.{local_of};
-ghost use Rattle.handlebars_expand.specs.Lending.{LendsBlock};
-ghost use Rattle.handlebars_meaning.specs.State.{push_frame, first_state, pop_frame, partial_in, with_data, with_local, without_local};
-ghost use Rattle.handlebars_expand.specs.View.{state_of, root_of, has_failed, IsKept};
+ghost use Rattle.handlebars_helpers.specs.UserView.{local_of};
+ghost use Rattle.handlebars_expand.specs.Borrowing.{BorrowsBlock};
+ghost use Rattle.handlebars_semantics.specs.State.{push_frame, first_state, pop_frame, partial_in, with_data, with_local, without_local};
+ghost use Rattle.handlebars_expand.specs.View.{state_of, root_of, has_failed, IsUnchanged};
 
 mod blocks;
 pub mod internal;
@@ -20,7 +20,7 @@ mod names;
 use crate::context::blocks::Blocks;
 use crate::null::Null;
 use handlebars_base::json::value::Json;
-use handlebars_helpers::own::LocalHelper;
+use handlebars_helpers::user::LocalHelper;
 use handlebars_scope::block::BlockContext;
 use handlebars_scope::context::Context;
 use handlebars_scope::context::looked_up::LookedUp;
@@ -29,8 +29,8 @@ use handlebars_template::template::Template;
 use std::alloc::{AllocError, Global};
 use std::collections::{BTreeMap, VecDeque};
 
-/// The state of a rendering: what templates change as they are rendered, and what decorators put in the place of
-/// the data and bind to names.
+/// The state of a rendering: what templates change while they are rendered, the data that decorators set instead of the given
+/// data, and what decorators bind to names.
 pub struct RenderContext {
     alloc: Global,
     root_template: Option<String>,
@@ -40,16 +40,16 @@ pub struct RenderContext {
     line: LineState,
     escapes: bool,
     failed: bool,
-    // What stands in the place of the data that was given, once a decorator changed it.
+    // The data that replaces the given data, once a decorator has changed it.
     changed: Option<Context>,
     local_helpers: BTreeMap<String, LocalHelper>,
-    // What is lent where a value of changed data is missing.
+    // The null that is borrowed if a value of changed data is missing.
     null: Null,
     // How many members of the data were looked up for paths.
     looked_up: LookedUp,
 }
 
-// By hand, so that each place that lets one go is one call.
+// Implemented explicitly, so that dropping one is a single call.
 impl Drop for RenderContext {
     fn drop(self) {
         let RenderContext {
@@ -70,7 +70,12 @@ impl Drop for RenderContext {
 }
 
 impl RenderContext {
-    /// The first state of a run, which the template of that name begins, if it has one.
+    /// Returns the state at the start of a run. `root_template` is the name of the template that the run begins with, if it has
+    /// one.
+    ///
+    /// # Errors
+    ///
+    /// Fails if memory runs out.
     pub fn new(alloc: Global, root_template: Option<&String>) -> Result<RenderContext, AllocError>
         ensures state { IfOk result (λ rc. state_of rc ≡ first_state false) }
         ensures root { IfOk result (λ rc. root_of rc ≡ option_map (λ name. string_bytes name.now) root_template.entry) }
@@ -97,15 +102,18 @@ impl RenderContext {
         })
     }
 
-    /// Whether a rendering in this context was refused: the next ones are then refused too.
+    /// Returns whether a rendering in this context has failed. Later renderings in it then fail too.
     pub fn has_failed(&self) -> bool
         ensures { result ≡ has_failed self.now }
     {
         self.failed
     }
 
-    /// Makes a block of scope the nearest one. Where memory is refused, nothing is changed here, and
-    /// the block is gone.
+    /// Makes a scope frame the nearest one.
+    ///
+    /// # Errors
+    ///
+    /// Fails if memory runs out. The context is then unchanged, and the frame is dropped.
     pub fn push_block(&mut self, block: BlockContext) -> Result<(), AllocError>
         ensures ok { OnOk result (state_of self.new ≡ push_frame (frame_of block) (state_of self.old)) }
         ensures err { OnErr result (state_of self.new ≡ state_of self.old) }
@@ -115,7 +123,7 @@ impl RenderContext {
         self.blocks.push(block)
     }
 
-    /// Takes the nearest block of scope away, where there is one.
+    /// Removes the nearest scope frame, if there is one.
     pub fn pop_block(&mut self)
         ensures state { state_of self.new ≡ pop_frame (state_of self.old) }
         ensures root { root_of self.new ≡ root_of self.old }
@@ -124,23 +132,22 @@ impl RenderContext {
         self.blocks.pop();
     }
 
-    /// The nearest block of scope.
+    /// Returns the nearest scope frame, or `None` if there is none.
     pub fn block(&self) -> Option<&BlockContext>
         ensures { option_map (λ b. frame_of b.now) result ≡ slice_get (state_of self.now).blocks 0 }
     {
         self.blocks.nearest()
     }
 
-    /// The nearest block of scope, to be changed.
+    /// Returns a mutable reference to the nearest scope frame, or `None` if there is none.
     pub fn block_mut(&mut self) -> Option<&mut BlockContext>
-        ensures* writes_back { sem 𝓛 (LendsBlock self.entry result) }
+        ensures* writes_back { sem 𝓛 (BorrowsBlock self.entry result) }
         ensures value { option_map (λ b. frame_of b.now) result ≡ slice_get (state_of self.old).blocks 0 }
     {
         self.blocks.nearest_mut()
     }
 
-    /// Other blocks of scope, nearest first, take the place of those that are there, which are given
-    /// back.
+    /// Replaces the scope frames by others, nearest first, and returns the old ones.
     pub fn replace_blocks(&mut self, blocks: VecDeque<BlockContext>) -> VecDeque<BlockContext>
         ensures replaced { frames_of result.items ≡ (state_of self.old).blocks }
         ensures state { state_of self.new ≡ record (state_of self.old) { blocks = frames_of blocks.items } }
@@ -150,7 +157,7 @@ impl RenderContext {
         self.blocks.replace(blocks)
     }
 
-    /// From now on lookup is recursive, or isn't.
+    /// Sets whether lookup is recursive.
     pub fn set_recursive_lookup(&mut self, enabled: bool)
         ensures state { state_of self.new ≡ record (state_of self.old) { recursive = enabled } }
         ensures root { root_of self.new ≡ root_of self.old }
@@ -159,7 +166,7 @@ impl RenderContext {
         self.recursive_lookup = enabled;
     }
 
-    /// The partial of a name that a decorator set: the one of the nearest block that has one.
+    /// Returns the partial of a name that a decorator set: the one of the nearest scope frame that has one.
     pub fn get_partial(&self, name: &str) -> Option<&Template>
         ensures { option_map (λ t. tree_view t.now) result ≡ partial_in (state_of self.now).blocks name.now }
     {
@@ -169,24 +176,27 @@ impl RenderContext {
         }
     }
 
-    /// The data that a decorator put in the place of what was given, if one did.
+    /// Returns the data that a decorator set instead of the given data, if one did.
     pub fn context(&self) -> Option<&Context>
         ensures { option_map (λ c. data_of c.now) result ≡ (state_of self.now).changed }
     {
         self.changed.as_ref()
     }
 
-    /// From now on this data stands in the place of what was given: values of it have no path, and a
-    /// missing one is null.
+    /// Replaces the given data by this data. Values of it have no path, and a missing one is null.
     pub fn set_context(&mut self, context: Context)
         ensures state { state_of self.new ≡ with_data (data_of context) (state_of self.old) }
-        ensures kept { IsKept self.old self.new }
+        ensures unchanged { IsUnchanged self.old self.new }
     {
         self.changed = Some(context);
     }
 
-    /// Calls of this name go to the helper that is registered under another one, with the constants
-    /// before their parameters. Where memory is refused, nothing is changed.
+    /// Binds `name` to the helper that is registered under another name. Calls of `name` then go to that helper, with the
+    /// constants before their parameters.
+    ///
+    /// # Errors
+    ///
+    /// Fails if memory runs out. The context is then unchanged.
     pub fn register_local_helper(
         &mut self,
         name: &str,
@@ -199,7 +209,7 @@ impl RenderContext {
         })
             (state_of self.old)) }
         ensures err { OnErr result (state_of self.new ≡ state_of self.old) }
-        ensures kept { IsKept self.old self.new }
+        ensures unchanged { IsUnchanged self.old self.new }
     {
         let name = String::from_str(self.alloc, name)?;
         let registered = String::from_str(self.alloc, registered)?;
@@ -213,36 +223,36 @@ impl RenderContext {
         )
     }
 
-    /// This name has no local helper any more.
+    /// Removes the local helper of a name, if there is one.
     pub fn unregister_local_helper(&mut self, name: &str)
         ensures state { state_of self.new ≡ without_local name.now (state_of self.old) }
-        ensures kept { IsKept self.old self.new }
+        ensures unchanged { IsUnchanged self.old self.new }
     {
         self.local_helpers.remove(name);
     }
 
-    /// The local helper of a name.
+    /// Returns the local helper of a name, if there is one.
     pub fn get_local_helper(&self, name: &str) -> Option<&LocalHelper>
         ensures { option_map (λ l. local_of l.now) result ≡ (state_of self.now).local name.now }
     {
         self.local_helpers.get(name)
     }
 
-    // Whether a name has a local helper. Most contexts have none, which is seen at once.
+    // Whether a name has a local helper. Most contexts have no local helpers at all, which is checked first.
     pub(super) fn has_local_helper(&self, name: &str) -> bool
         ensures { result ≡ is_some ((state_of self.now).local name.now) }
     {
         !self.local_helpers.is_empty() && self.local_helpers.contains_key(name)
     }
 
-    /// Whether values are written as they are, and not escaped.
+    /// Returns whether values are written as they are, without escaping.
     pub fn is_disable_escape(&self) -> bool
         ensures { result ≡ not (state_of self.now).escapes }
     {
         !self.escapes
     }
 
-    /// From now on values are written as they are, or escaped.
+    /// Sets whether values are written as they are, without escaping.
     pub fn set_disable_escape(&mut self, disable: bool)
         ensures state { state_of self.new ≡ record (state_of self.old) { escapes = not disable } }
         ensures root { root_of self.new ≡ root_of self.old }
@@ -251,7 +261,7 @@ impl RenderContext {
         self.escapes = !disable;
     }
 
-    // From now on renderings are refused.
+    // Marks the context as failed. Later renderings in it fail.
     pub(super) fn fail(&mut self)
         ensures { self.new ≡ record self.old { failed = true } }
     {

@@ -2,61 +2,61 @@
 
 ghost use Rattle.std.specs.Prelude.{◌≡◌, ◌-◌, ◌^◌, None};
 
-use crate::ahead::Kept;
-use crate::pieces::Spot;
+use crate::ahead::Captured;
+use crate::pieces::Location;
 use handlebars_scope::context::Context;
 use handlebars_scope::context::bases::Bases;
 use std::alloc::Global;
 
-/// All that stays as it is in a run, and what stays as it is within an inclusion.
+/// What is constant in a run, and what is constant within an inclusion.
 #[derive(Drop)]
 pub struct Environment<'r, 'a, P> {
     pub alloc: Global,
     pub parts: &'r P,
     pub given: &'a Context,
-    /// How many trees may still be rendered one within another.
-    pub room: u64,
+    /// The fuel: how many trees may still be rendered within one another.
+    pub fuel: u64,
     /// How many inclusions are being rendered.
     pub inclusions: u16,
-    /// What is kept for partial blocks, if anything is.
-    pub kept: Option<&'r Kept>,
+    /// What is captured for partial blocks, if anything is.
+    pub captured: Option<&'r Captured>,
     /// The indentation in force, if there is one.
     pub indent: Option<&'r str>,
-    /// What is lent to blocks of scope: values as their bases, and nodes of the data.
+    /// What scope frames borrow: values as their bases, and nodes of the data.
     pub bases: &'r Bases<'r, 'a>,
-    /// Where the element stands that is being rendered, where pieces are told.
-    pub spot: &'r Spot<'r>,
+    /// The location of the element that is being rendered, if pieces are emitted.
+    pub location: &'r Location<'r>,
 }
 
-/// The environment outside of every inclusion, in which as many trees may nest as a count of 64 bits tells.
+/// Returns the environment outside of every inclusion. Its fuel is 2^64 - 1, the number of trees that may be nested.
 pub fn outside<'r, 'a, P>(
     alloc: Global,
     parts: &'r P,
     given: &'a Context,
     bases: &'r Bases<'r, 'a>,
-    spot: &'r Spot<'r>,
+    location: &'r Location<'r>,
 ) -> Environment<'r, 'a, P>
     ensures { result ≡ record {
       alloc = alloc;
       parts = parts.entry;
       given = given.entry;
-      room = 2 ^ 64 - 1;
+      fuel = 2 ^ 64 - 1;
       inclusions = 0;
-      kept = None;
+      captured = None;
       indent = None;
       bases = bases.entry;
-      spot = spot.entry;
+      location = location.entry;
     } }
 {
     Environment {
         alloc,
         parts,
         given,
-        room: u64::MAX,
+        fuel: u64::MAX,
         inclusions: 0,
-        kept: None,
+        captured: None,
         indent: None,
         bases,
-        spot,
+        location,
     }
 }

@@ -1,4 +1,4 @@
-//! Whether a rendering in a context was refused.
+//! Whether a rendering in a context has failed.
 
 ghost use Rattle.std.specs.Prelude.{◌≡◌, IfErr, IfOk, OnErr, OnOk, false, true};
 ghost use Rattle.handlebars_base.specs.Reasons.{failed};
@@ -8,7 +8,11 @@ ghost use Rattle.handlebars_expand.specs.View.{has_failed};
 use crate::context::RenderContext;
 use handlebars_base::error::{RenderError, RenderErrorReason};
 
-/// A context that has failed is refused.
+/// Checks that a context has not failed.
+///
+/// # Errors
+///
+/// Fails with `Failed` if a rendering in this context has failed.
 pub fn ready(rc: &RenderContext) -> Result<(), RenderError>
     ensures ok { IfOk result (λ _. has_failed rc.now ≡ false) }
     ensures err { IfErr result (λ e. (has_failed rc.now ≡ true) × (refusal_of e ≡ plain_refusal failed)) }
@@ -20,7 +24,7 @@ pub fn ready(rc: &RenderContext) -> Result<(), RenderError>
     }
 }
 
-/// After a refusal the context has failed.
+/// Marks the context as failed if `answer` is an error. Returns `answer`.
 pub fn fail_after<T>(
     rc: &mut RenderContext,
     answer: Result<T, RenderError>,

@@ -1,19 +1,19 @@
-//! The block of scope of an inclusion.
+//! The scope frame of an inclusion.
 
 ghost use Rattle.std.specs.Prelude.{◌≡◌, [], IfOk, IfSome};
 ghost use Rattle.serde_json.specs.View.{view};
 ghost use Rattle.handlebars_base.specs.Path.{relative};
 ghost use Rattle.handlebars_base.specs.PathView.{reference_of};
-ghost use Rattle.handlebars_scope.specs.MergedView.{pairs_in};
+ghost use Rattle.handlebars_scope.specs.MergedView.{hash_in};
 ghost use Rattle.handlebars_scope.specs.Scopes.{empty_frame, nothing_at};
 ghost use Rattle.handlebars_scope.specs.ScopeView.{bounds_of, frame_of};
 ghost use Rattle.handlebars_helpers.specs.DecoratorsView.{tag_view};
-ghost use Rattle.handlebars_meaning.specs.Including.{base_value};
-ghost use Rattle.handlebars_meaning.specs.Inclusion.{with_bound};
-ghost use Rattle.handlebars_meaning.specs.State.{nearest_variables};
-ghost use Rattle.handlebars_expand.specs.Inclusions.{HasBase, StandsAt, lent_frame};
+ghost use Rattle.handlebars_semantics.specs.Including.{base_value};
+ghost use Rattle.handlebars_semantics.specs.Inclusion.{with_bound};
+ghost use Rattle.handlebars_semantics.specs.State.{nearest_variables};
+ghost use Rattle.handlebars_expand.specs.Inclusions.{HasBase, HasInclusionBlock, borrowed_block_frame};
 ghost use Rattle.handlebars_expand.specs.Judgement.{InState};
-ghost use Rattle.handlebars_expand.specs.View.{setting_in, state_of, state_with, GivesValue, KeptIn, within, HasNodes};
+ghost use Rattle.handlebars_expand.specs.View.{setting_in, state_of, state_with, GivesValue, CapturedIn, within, HasNodes};
 
 use crate::context::{RenderContext, internal};
 use crate::environment::Environment;
@@ -28,62 +28,66 @@ use handlebars_scope::merge::merge;
 use std::alloc::{AllocError, Global};
 use std::collections::BTreeMap;
 
-/// A block of scope, and the value that is lent to it as its base, where it has none of its own.
+/// A scope frame, and the value that it borrows as its base, if it owns none.
 #[derive(Drop)]
-pub struct LentBlock<'v> {
+pub struct BorrowedBlock<'v> {
     pub block: BlockContext,
     pub base: Option<&'v Json>,
 }
 
-/// The block of an inclusion: it stands at a value, merged with the pairs, which are bound to their keys too, and has the
-/// variables of the nearest block. Without pairs the value is lent to it, unless the context holds it.
+/// Returns the scope frame of an inclusion. Its base is a value merged with the hash arguments, which are also bound to their
+/// keys. It has the variables of the nearest frame. Without hash arguments it borrows the value, unless the context holds it.
+///
+/// # Errors
+///
+/// Fails if the value of the inclusion does, or if memory runs out.
 #[inline(always)]
-pub fn inclusion_block<'v, P: Registered>(
+pub fn inclusion_frame<'v, P: Registered>(
     tag: &'v Decorator,
     environment: &Environment<'v, 'v, P>,
     rc: &RenderContext,
-) -> Result<LentBlock<'v>, RenderError>
+) -> Result<BorrowedBlock<'v>, RenderError>
     requires nodes { HasNodes environment.now rc.now }
-    ensures { InState P.parts environment.now rc.now (λ p s. StandsAt p (tag_view tag.now) s lent_frame result) }
+    ensures { InState P.parts environment.now rc.now (λ p s. HasInclusionBlock p (tag_view tag.now) s borrowed_block_frame result) }
 {
-    match lent_base(tag, environment, rc) {
-        Some(base) => Ok(LentBlock {
+    match borrowed_base(tag, environment, rc) {
+        Some(base) => Ok(BorrowedBlock {
             block: plain_block(environment.alloc, rc)?,
             base: Some(base),
         }),
         None => match own_block(tag, environment, rc) {
-            Ok(block) => Ok(LentBlock { block, base: None }),
+            Ok(block) => Ok(BorrowedBlock { block, base: None }),
             Err(e) => Err(e),
         },
     }
 }
 
-// The value that an inclusion stands at, where there are no pairs and it can be lent: that of the first parameter, or
-// without one the current one.
+// The base of an inclusion, if there are no hash arguments and the value can be borrowed: the value of the first parameter, or
+// without one the current value.
 #[inline(always)]
-fn lent_base<'v, P: Registered>(
+fn borrowed_base<'v, P: Registered>(
     tag: &'v Decorator,
     environment: &Environment<'v, 'v, P>,
     rc: &RenderContext,
 ) -> Option<&'v Json>
     requires nodes { HasNodes environment.now rc.now }
-    ensures value { IfSome result (λ v. (kept : KeptIn (within environment.now)) → GivesValue (setting_in P.parts environment.now)
-        (base_value (tag_view tag.now).call.params) (state_with kept rc.now) (view v.now)) }
-    ensures plain { IfSome result (λ v. (tag_view tag.now).call.pairs ≡ []) }
+    ensures value { IfSome result (λ v. (captured : CapturedIn (within environment.now)) → GivesValue (setting_in P.parts environment.now)
+        (base_value (tag_view tag.now).call.params) (state_with captured rc.now) (view v.now)) }
+    ensures plain { IfSome result (λ v. (tag_view tag.now).call.hash ≡ []) }
 {
     if !tag.hash().is_empty() {
         return None;
     }
     match tag.param(0) {
         Some(value) => Some(value.value()),
-        None => match rc.lent_current(environment.given.data(), environment.bases) {
+        None => match rc.borrowed_current(environment.given.data(), environment.bases) {
             Some(value) => Some(value),
             None => None,
         },
     }
 }
 
-// A block with the variables of the nearest one, and nothing else. Within its caller it would be copied once more.
+// A scope frame with the variables of the nearest one, and nothing else. Inlined into its caller, it would be copied once more.
 #[inline(never)]
 fn plain_block(alloc: Global, rc: &RenderContext) -> Result<BlockContext, AllocError>
     ensures { IfOk result (λ block. frame_of block
@@ -95,7 +99,7 @@ fn plain_block(alloc: Global, rc: &RenderContext) -> Result<BlockContext, AllocE
     }
 }
 
-// The block that has the value itself. It stands apart from its caller, which needs no room for it where the value is lent.
+// The scope frame that owns its value. It is not inlined: its caller needs no stack space for it if the value is borrowed.
 #[inline(never)]
 fn own_block<P: Registered>(
     tag: &Decorator,
@@ -103,19 +107,20 @@ fn own_block<P: Registered>(
     rc: &RenderContext,
 ) -> Result<BlockContext, RenderError>
     requires nodes { HasNodes environment.now rc.now }
-    ensures { InState P.parts environment.now rc.now (λ p s. StandsAt p (tag_view tag.now) s frame_of result) }
+    ensures { InState P.parts environment.now rc.now (λ p s. HasInclusionBlock p (tag_view tag.now) s frame_of result) }
 {
     let base = match base(tag, environment, rc) {
         Ok(base) => base,
         Err(e) => return Err(e),
     };
     let mut block = plain_block(environment.alloc, rc)?;
-    block.set_block_params(bound_pairs(environment.alloc, tag.hash())?);
+    block.set_block_params(bound_hash(environment.alloc, tag.hash())?);
     block.set_base_value(base);
     Ok(block)
 }
 
-// The value of the first parameter, or without one the current one, merged with the pairs. A missing one counts as null.
+// The value of the first parameter, or without one the current value, merged with the hash arguments. A missing value counts as
+// null.
 fn base<P: Registered>(
     tag: &Decorator,
     environment: &Environment<'_, '_, P>,
@@ -130,7 +135,7 @@ fn base<P: Registered>(
     }
 }
 
-// The current value, merged with the pairs.
+// The current value, merged with the hash arguments.
 fn current<P: Registered>(
     tag: &Decorator,
     environment: &Environment<'_, '_, P>,
@@ -155,15 +160,12 @@ fn here(alloc: Global) -> Path
     Path::Relative((Vec::new(alloc), String::new(alloc)))
 }
 
-// Each pair, bound to its key.
-fn bound_pairs(
-    alloc: Global,
-    pairs: &BTreeMap<&str, PathAndJson>,
-) -> Result<BlockParams, AllocError>
-    ensures { IfOk result (λ bound. bounds_of bound ≡ with_bound (pairs_in pairs.now.entries) nothing_at) }
+// Each hash argument, bound to its key.
+fn bound_hash(alloc: Global, hash: &BTreeMap<&str, PathAndJson>) -> Result<BlockParams, AllocError>
+    ensures { IfOk result (λ bound. bounds_of bound ≡ with_bound (hash_in hash.now.entries) nothing_at) }
 {
     let mut bound = BlockParams::new(alloc);
-    'pairs: for (key, value) in pairs.iter() {
+    'hash: for (key, value) in hash.iter() {
         bound.add_value(*key, value.value().clone()?)?;
     }
     Ok(bound)

@@ -1,5 +1,5 @@
 //! What a rendering reads and expands: the context of a run, what is registered, and the values of parameters. Nothing is
-//! written here; `handlebars_render` stands on it.
+//! written here; `handlebars_render` builds on it.
 #![tactic(auto)]
 
 pub mod ahead;
@@ -9,10 +9,10 @@ pub mod called;
 pub mod context;
 pub mod environment;
 pub mod failure;
-pub mod heard;
 pub mod inclusion;
 mod null;
-pub mod own;
 pub mod pieces;
 pub mod registered;
+pub mod trace;
+pub mod user;
 pub mod value;

@@ -1,4 +1,4 @@
-//! A null that can be lent.
+//! A null that can be borrowed.
 
 ghost use Rattle.std.specs.Prelude.{◌≡◌, is_some, true};
 ghost use Rattle.serde_json.specs.Data.{null};
@@ -7,7 +7,7 @@ ghost use Rattle.serde_json.specs.View.{view};
 
 use handlebars_base::json::value::Json;
 
-/// The null of JSON, which is lent where a value is missing.
+/// The null of JSON, which is borrowed where a value is missing.
 #[derive(Drop)]
 pub struct Null {
     value: Json,
@@ -15,12 +15,12 @@ pub struct Null {
 }
 
 impl Null {
-    /// The null.
+    /// Returns the null.
     pub fn new() -> Null {
         Null { value: Json::Null }
     }
 
-    /// It, lent.
+    /// Borrows the null.
     pub fn value(&self) -> &Json
         ensures { view result.now ≡ null }
     {

@@ -1,35 +1,35 @@
-//! What is told of each piece of a rendering's text: of what kind it is, and where it comes from.
+//! What is emitted with each piece of a rendering's text: its kind, and its origin.
 
 ghost use Rattle.std.specs.Prelude.{◌≡◌, ◌++◌, ◌∷◌, [], IfErr, List, None, OnErr, OnOk};
 ghost use Rattle.std.specs.declared.io.Error.{Error};
 ghost use Rattle.handlebars_helpers.specs.View.{path_view};
-ghost use Rattle.handlebars_meaning.specs.Sites.{the_first};
-ghost use Rattle.handlebars_meaning.specs.Told.{Told};
-ghost use Rattle.handlebars_expand.specs.PiecesView.{kind_name, kind_seen, path_seen, spot_seen, told_seen};
+ghost use Rattle.handlebars_semantics.specs.Occurrences.{the_first};
+ghost use Rattle.handlebars_semantics.specs.Emitted.{Emitted};
+ghost use Rattle.handlebars_expand.specs.PiecesView.{kind_name, kind_seen, path_seen, location_seen, emitted_seen};
 
 use handlebars_scope::context::full_path::FullPath;
 use handlebars_template::template::TemplateMapping;
 use std::{fmt, io};
 
-/// Of what kind a piece is.
+/// The kind of a piece of output.
 #[derive(Clone, Copy, Debug, PartialEq, Eq)]
 pub enum PieceKind {
-    /// A text of a template.
+    /// Text of a template.
     TemplateText,
-    /// The indentation of inclusions.
+    /// The indentation of partial calls.
     Indentation,
     /// A value, escaped.
     EscapedValue,
-    /// A value, as it is.
+    /// A value, without escaping.
     RawValue,
-    /// The word of a boolean helper.
-    HelperWord,
-    /// A text of a helper of one's own.
-    OwnText,
+    /// The text of a boolean helper.
+    HelperBoolean,
+    /// Text of a user-defined helper.
+    UserText,
 }
 
 impl PieceKind {
-    /// A word for it: `text`, `indentation`, `value`, `raw`, `word` or `own`.
+    /// Returns the name of the kind: `text`, `indentation`, `value`, `raw`, `word` or `own`.
     pub fn name(self) -> &'static str
         ensures { result.now ≡ kind_name (kind_seen self) }
     {
@@ -38,8 +38,8 @@ impl PieceKind {
             PieceKind::Indentation => "indentation",
             PieceKind::EscapedValue => "value",
             PieceKind::RawValue => "raw",
-            PieceKind::HelperWord => "word",
-            PieceKind::OwnText => "own",
+            PieceKind::HelperBoolean => "word",
+            PieceKind::UserText => "own",
         }
     }
 }
@@ -50,47 +50,47 @@ impl fmt::Display for PieceKind {
     }
 }
 
-/// The template in which an element stands.
+/// The template that contains an element.
 #[derive(Clone, Copy)]
-pub enum Standing<'p> {
-    /// The one that is rendered.
+pub enum TemplateReference<'p> {
+    /// The template that is rendered.
     First,
-    /// One that is included, by its name. An inline partial has none.
+    /// A template that is included, by its name. An inline partial has none.
     Included(Option<&'p str>),
 }
 
-/// Where an element stands.
+/// The location of an element.
 #[derive(Clone, Copy)]
-pub struct Spot<'p> {
-    pub template: Standing<'p>,
-    /// Its line and column, from 1, where its template has them.
-    pub place: Option<&'p TemplateMapping>,
-    /// The turn of each `each` around it, from 0, the outermost first.
-    pub turns: &'p [usize],
+pub struct Location<'p> {
+    pub template: TemplateReference<'p>,
+    /// The line and column of the element, both 1-based, if its template has them.
+    pub position: Option<&'p TemplateMapping>,
+    /// The index of the iteration of each `each` around the element, 0-based, outermost first.
+    pub iterations: &'p [usize],
 }
 
-impl Spot<'_> {
-    /// Of what is rendered: no element yet, and no turn.
-    pub fn first() -> Spot<'static>
-        ensures { spot_seen result ≡ record { around = record { template = the_first; turns = [] }; place = None } }
+impl Location<'_> {
+    /// Returns the location at the start of a rendering: in the first template, with no element and no iteration.
+    pub fn first() -> Location<'static>
+        ensures { location_seen result ≡ record { around = record { template = the_first; iterations = [] }; position = None } }
     {
-        Spot {
-            template: Standing::First,
-            place: None,
-            turns: &[],
+        Location {
+            template: TemplateReference::First,
+            position: None,
+            iterations: &[],
         }
     }
 }
 
-/// Where a piece comes from: the element that writes it, and of a value the path that it was walked by, where it has one.
+/// The origin of a piece: the element that writes it, and for a value the path by which it was reached, if it has one.
 #[derive(Clone, Copy)]
 pub struct Origin<'p> {
     pub kind: PieceKind,
-    pub spot: Spot<'p>,
+    pub location: Location<'p>,
     pub path: Option<FullPath<'p>>,
 }
 
-/// The full path that names are, if there are any.
+/// Returns the full path with these names, if there are any.
 pub fn full_path(names: Option<&Vec<String>>) -> Option<FullPath<'_>>
     ensures { path_seen result ≡ path_view names.entry }
 {
@@ -100,17 +100,21 @@ pub fn full_path(names: Option<&Vec<String>>) -> Option<FullPath<'_>>
     }
 }
 
-/// Is told of each piece of a rendering's text, in order.
+/// An output that receives each piece of a rendering's text, in order.
 pub trait PieceOutput {
-    // What it was told.
-    ghost told: { Self → List Told };
+    // The pieces that it has received.
+    ghost emitted: { Self → List Emitted };
 
-    // The errors that it may give: any, where it does not say.
+    // The errors that it may return: any, unless an implementation restricts them.
     ghost may_give: { Error → Type 0 } = { λ _. Unit {0} };
 
-    /// Takes a piece. One that is refused counts as not told.
+    /// Receives a piece.
+    ///
+    /// # Errors
+    ///
+    /// Returns an error if the output rejects the piece. Such a piece counts as not emitted.
     fn piece(&mut self, text: &str, origin: &Origin<'_>) -> Result<(), io::Error>
-        ensures ok { OnOk result (told self.new ≡ told self.old ++ told_seen text.now origin.now ∷ []) }
-        ensures err { OnErr result (told self.new ≡ told self.old) }
+        ensures ok { OnOk result (emitted self.new ≡ emitted self.old ++ emitted_seen text.now origin.now ∷ []) }
+        ensures err { OnErr result (emitted self.new ≡ emitted self.old) }
         ensures given { IfErr result may_give };
 }

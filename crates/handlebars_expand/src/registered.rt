@@ -4,10 +4,10 @@ ghost use Rattle.std.specs.Prelude.{◌≡◌, Bool, map, option_map, string_byt
 ghost use Rattle.handlebars_base.specs.Bytes.{Text};
 ghost use Rattle.handlebars_template.specs.TreeView.{tree_view};
 ghost use Rattle.handlebars_helpers.specs.Callee.{calls_registered};
-ghost use Rattle.handlebars_helpers.specs.DecoratorsView.{decorator_called, deed_of, decorator_question_of};
+ghost use Rattle.handlebars_helpers.specs.DecoratorsView.{decorator_called, action_of, decorator_question_of};
 ghost use Rattle.handlebars_helpers.specs.EscapeView.{escaping_of};
-ghost use Rattle.handlebars_helpers.specs.OwnView.{helper_question_of, callee_of, offer_of, steps_of, IsOneOf};
-ghost use Rattle.handlebars_meaning.specs.State.{IsLawful, Parts, helper_for, helper_named, hook};
+ghost use Rattle.handlebars_helpers.specs.UserView.{helper_question_of, callee_of, offer_of, steps_of, IsOneOf};
+ghost use Rattle.handlebars_semantics.specs.State.{IsLawful, Parts, helper_for, helper_named, hook};
 ghost use Rattle.handlebars_expand.specs.Targets.{target_in};
 ghost use Rattle.handlebars_expand.specs.View.{state_of};
 
@@ -17,7 +17,7 @@ use handlebars_helpers::built_in::BuiltIn;
 use handlebars_helpers::decorators::view::Decorator;
 use handlebars_helpers::decorators::{DecoratorKind, DecoratorResult};
 use handlebars_helpers::escape::Escaping;
-use handlebars_helpers::own::{Callee, HelperResult, HelperValue};
+use handlebars_helpers::user::{Callee, HelperResult, HelperValue};
 use handlebars_helpers::view::Helper;
 use handlebars_scope::context::Context;
 use handlebars_template::template::Template;
@@ -25,15 +25,15 @@ use log::Level;
 
 /// What is registered under names.
 pub trait Registered {
-    // What it is, as definitions see it.
+    // What is registered, as the definitions see it.
     ghost parts: { Self → Parts };
 
-    /// What stands under a name of helpers, if anything does.
+    /// Returns the helper that is registered under a name, if there is one.
     fn helper(&self, name: &str) -> Option<Callee>
         ensures { option_map (callee_of name.now) result ≡ (parts self.now).helper name.now };
 
-    /// What the helper of one's own under a name answers when it is called: with the view of the call, the
-    /// data that was given, and what stands in its place, where it was changed.
+    /// Returns what the user-defined helper under a name answers when it is called. It receives the view of the call, the given
+    /// data, and the data that replaces it, if it was changed.
     fn steps_of(
         &self,
         name: &str,
@@ -41,10 +41,10 @@ pub trait Registered {
         given: &Context,
         changed: Option<&Context>,
     ) -> HelperResult
-        ensures { IsOneOf (((parts self.now).own name.now).has_steps
+        ensures { IsOneOf (((parts self.now).user name.now).has_steps
             (helper_question_of view.now given.now changed.entry (parts self.now).strict)) steps_of result };
 
-    /// What it offers when it is asked for a value.
+    /// Returns what the user-defined helper under a name offers when it is asked for a value.
     fn offer_of(
         &self,
         name: &str,
@@ -52,69 +52,69 @@ pub trait Registered {
         given: &Context,
         changed: Option<&Context>,
     ) -> Result<HelperValue, RenderError>
-        ensures { IsOneOf (((parts self.now).own name.now).has_offer
+        ensures { IsOneOf (((parts self.now).user name.now).has_offer
             (helper_question_of view.now given.now changed.entry (parts self.now).strict)) offer_of result };
 
-    /// The decorator under a name, if there is one.
+    /// Returns the decorator that is registered under a name, if there is one.
     fn decorator(&self, name: &str) -> Option<DecoratorKind>
         ensures { option_map (decorator_called name.now) result ≡ (parts self.now).decorator name.now };
 
-    /// What the decorator of one's own under a name answers for a tag.
-    fn deeds_of(
+    /// Returns what the user-defined decorator under a name answers for a tag.
+    fn actions_of(
         &self,
         name: &str,
         tag: &Decorator,
         given: &Context,
         changed: Option<&Context>,
     ) -> DecoratorResult
-        ensures { IsOneOf ((parts self.now).own_decorator name.now
-            (decorator_question_of tag.now given.now changed.entry (parts self.now).strict)) (λ v. map deed_of v.items) result };
+        ensures { IsOneOf ((parts self.now).user_decorator name.now
+            (decorator_question_of tag.now given.now changed.entry (parts self.now).strict)) (λ v. map action_of v.items) result };
 
-    /// How values are escaped.
+    /// Returns how values are escaped.
     fn escape(&self) -> Escaping
         ensures { escaping_of result ≡ (parts self.now).escape };
 
-    /// What an escape function of one's own answers for a text.
+    /// Returns what a user-defined escape function answers for a text.
     fn escaped(&self, text: &str) -> Result<String, RenderError>
-        ensures { IsOneOf ((parts self.now).own_escape text.now) string_bytes result };
+        ensures { IsOneOf ((parts self.now).user_escape text.now) string_bytes result };
 
-    /// The template under a name, if there is one.
+    /// Returns the template that is registered under a name, if there is one.
     fn template(&self, name: &str) -> Option<&Template>
         ensures { option_map (λ t. tree_view t.now) result ≡ (parts self.now).template name.now };
 
-    /// How many inclusions may be rendered one within another.
+    /// Returns the limit of inclusions: how many may be rendered within one another.
     fn limit(&self) -> u16
         ensures { result ≡ (parts self.now).limit };
 
-    /// Whether the mode is strict.
+    /// Returns whether the mode is strict.
     fn strict(&self) -> bool
         ensures { result ≡ (parts self.now).strict };
 
-    /// Whether blocks that call nothing act on the value of their name.
+    /// Returns whether blocks that call nothing act on the value of their name.
     fn sections(&self) -> bool
         ensures { result ≡ (parts self.now).sections };
 
-    /// Gives a line to the logger.
+    /// Passes a line to the logger.
     fn log(&self, level: Level, text: &str);
 
-    /// Nothing of one's own has two answers to one question.
-    fn keeps_law(&self)
+    /// States that no user-defined helper, decorator or escape function has two answers to one question.
+    fn satisfies_law(&self)
         ensures { IsLawful (parts self.now) };
 }
 
-/// What a call calls.
+/// The target of a call.
 #[derive(Clone, Copy, Debug, PartialEq, Eq)]
 pub enum Target {
     Built(BuiltIn),
-    /// The helper of one's own under the call's name.
+    /// The user-defined helper that is registered under the call's name.
     Named,
-    /// The one under the hook's name.
+    /// The user-defined helper that is registered under the hook's name.
     Hooked,
     /// The local helper of the call's name.
     Local,
 }
 
-/// What a call by a name calls, a block or not: the helper of the name, else the hook.
+/// Returns the target of a call by a name, of a block or not: the helper of the name, or else the hook.
 #[inline(always)]
 pub fn helper_for<P: Registered>(
     parts: &P,
@@ -134,7 +134,7 @@ pub fn helper_for<P: Registered>(
     }
 }
 
-/// The helper of a name: a local one, else a registered one.
+/// Returns the helper of a name: a local one, or else a registered one.
 #[inline(always)]
 pub fn helper_named<P: Registered>(parts: &P, rc: &RenderContext, name: &str) -> Option<Target>
     ensures { (block : Bool) → option_map (target_in block name.now) result
@@ -149,7 +149,7 @@ pub fn helper_named<P: Registered>(parts: &P, rc: &RenderContext, name: &str) ->
     }
 }
 
-/// What stands under a call's name.
+/// Returns the target for what is registered under a call's name.
 pub fn named(callee: Callee) -> Target
     ensures { (block : Bool) (name : Text) → target_in block name result ≡ calls_registered (callee_of name callee) }
 {
@@ -159,7 +159,7 @@ pub fn named(callee: Callee) -> Target
     }
 }
 
-/// What stands under the hook's name.
+/// Returns the target for what is registered under the hook's name.
 pub fn hooked(callee: Callee) -> Target
     ensures { (block : Bool) (name : Text) → target_in block name result ≡ calls_registered (callee_of (hook block) callee) }
 {
@@ -169,7 +169,7 @@ pub fn hooked(callee: Callee) -> Target
     }
 }
 
-/// The name of the hook, of blocks or of other calls.
+/// Returns the name of the hook, of blocks or of other calls.
 pub fn hook(block: bool) -> &'static str
     ensures { result.now ≡ hook block }
 {

@@ -8,13 +8,13 @@ ghost use Rattle.std.specs.Ordering.{nat_cmp};
 ghost use Rattle.handlebars_base.specs.PathAndData.{path_and_data};
 ghost use Rattle.handlebars_base.specs.PathView.{reference_of};
 ghost use Rattle.handlebars_base.specs.Scoped.{found_of, is_constant};
-ghost use Rattle.handlebars_template.specs.Tree.{as_name, call_args, call_name, expression};
-ghost use Rattle.handlebars_template.specs.TreeView.{call_view, param_view, params_view, pairs_view, subexpression_view};
-ghost use Rattle.handlebars_meaning.specs.Asks.{only};
-ghost use Rattle.handlebars_meaning.specs.Values.{HasValue, HasWrittenValue, HasName, HasInnerValue, HaveValues, PairsHaveValues, HasView, is_literal, path_value};
+ghost use Rattle.handlebars_template.specs.Tree.{as_name, call_args, call_name, escaped_expression};
+ghost use Rattle.handlebars_template.specs.TreeView.{call_view, param_view, params_view, hash_view, subexpression_view};
+ghost use Rattle.handlebars_semantics.specs.Asks.{only};
+ghost use Rattle.handlebars_semantics.specs.Values.{HasValue, HasWrittenValue, HasName, HasInnerValue, HaveValues, HashHasValues, HasView, is_literal, path_value};
 ghost use Rattle.handlebars_expand.specs.Boxed.{answer_of};
 ghost use Rattle.handlebars_expand.specs.Judgement.{InState};
-ghost use Rattle.handlebars_expand.specs.View.{called_view, pairs_seen, Yields, HasNodes};
+ghost use Rattle.handlebars_expand.specs.View.{called_view, hash_seen, Yields, HasNodes};
 
 use crate::boxed::BoxedError;
 use crate::called::{Called, helped_value};
@@ -28,7 +28,7 @@ use std::alloc::{AllocError, Global};
 use std::borrow::CowStr;
 use std::collections::BTreeMap;
 
-/// The value of a parameter.
+/// Returns the value of a parameter.
 #[cycle(value)]
 pub fn expands<'a, P: Registered>(
     environment: &Environment<'_, 'a, P>,
@@ -48,7 +48,7 @@ pub fn expands<'a, P: Registered>(
     }
 }
 
-/// What a path leads to.
+/// Returns what a path leads to.
 #[inline(always)]
 pub fn find<'a, P: Registered>(
     environment: &Environment<'_, 'a, P>,
@@ -66,7 +66,7 @@ pub fn find<'a, P: Registered>(
     }
 }
 
-/// The value of a parameter, as it is written.
+/// Returns the value of a parameter, with the parameter's text as written.
 #[cycle(value)]
 pub fn expand<'a, P: Registered>(
     environment: &Environment<'_, 'a, P>,
@@ -83,7 +83,7 @@ pub fn expand<'a, P: Registered>(
     }
 }
 
-/// The text that a parameter is called by, which is borrowed where it is written.
+/// Returns the text that a parameter is called by. It is borrowed if the template contains it.
 #[cycle(value)]
 pub fn expand_as_name<'a, P: Registered>(
     environment: &Environment<'_, 'a, P>,
@@ -105,7 +105,7 @@ pub fn expand_as_name<'a, P: Registered>(
     }
 }
 
-/// The value of what stands in parentheses: only a call has one.
+/// Returns the value of an expression in parentheses. Only a call has one.
 #[cycle(value)]
 pub fn inner_value<'a, P: Registered>(
     environment: &Environment<'_, 'a, P>,
@@ -130,7 +130,7 @@ pub fn inner_value<'a, P: Registered>(
     }
 }
 
-/// The value of a call in parentheses.
+/// Returns the value of a call in parentheses.
 #[cycle(value)]
 pub fn call_value<'a, P: Registered>(
     environment: &Environment<'_, 'a, P>,
@@ -139,7 +139,7 @@ pub fn call_value<'a, P: Registered>(
 ) -> Result<ScopedJson<'a>, BoxedError>
     requires nodes { HasNodes environment.now rc.now }
     ensures value { InState P.parts environment.now rc.now (λ p s. Yields
-        (HasInnerValue p s (expression (call_view helper.now))) found_of (answer_of result)) }
+        (HasInnerValue p s (escaped_expression (call_view helper.now))) found_of (answer_of result)) }
     ensures constant { IfOk result (λ found. is_constant found ≡ false) }
 {
     match called(environment, rc, helper) {
@@ -148,7 +148,7 @@ pub fn call_value<'a, P: Registered>(
     }
 }
 
-/// The name of a call and the values of its parameters and pairs.
+/// Returns the name of a call and the values of its parameters and hash arguments.
 #[cycle(value)]
 pub fn called<'a, P: Registered>(
     environment: &Environment<'_, 'a, P>,
@@ -161,11 +161,11 @@ pub fn called<'a, P: Registered>(
 {
     let name = expand_as_name(environment, rc, &helper.name)?;
     let params = params_values(environment, rc, &helper.params)?;
-    let hash = pairs_values(environment, rc, &helper.hash)?;
+    let hash = hash_values(environment, rc, &helper.hash)?;
     Ok(Called { name, params, hash })
 }
 
-/// The values of parameters, in order.
+/// Returns the values of parameters, in order.
 #[cycle(value)]
 #[inline(always)]
 pub fn params_values<'a, P: Registered>(
@@ -184,20 +184,20 @@ pub fn params_values<'a, P: Registered>(
     Ok(values)
 }
 
-/// The values of pairs, by key.
+/// Returns the values of hash arguments, by key.
 #[cycle(value)]
 #[inline(always)]
-pub fn pairs_values<'a, P: Registered>(
+pub fn hash_values<'a, P: Registered>(
     environment: &Environment<'_, 'a, P>,
     rc: &RenderContext,
-    pairs: &'a BTreeMap<String, Parameter>,
+    hash: &'a BTreeMap<String, Parameter>,
 ) -> Result<BTreeMap<&'a str, PathAndJson<'a>>, BoxedError>
     requires nodes { HasNodes environment.now rc.now }
-    ensures { InState P.parts environment.now rc.now (λ p s. Yields (PairsHaveValues p s (pairs_view pairs.now.entries))
-        (λ vs. pairs_seen vs.entries) (answer_of result)) }
+    ensures { InState P.parts environment.now rc.now (λ p s. Yields (HashHasValues p s (hash_view hash.now.entries))
+        (λ vs. hash_seen vs.entries) (answer_of result)) }
 {
     let mut values = BTreeMap::new(environment.alloc);
-    for (key, parameter) in pairs.iter() {
+    for (key, parameter) in hash.iter() {
         put(
             &mut values,
             key.as_str(),
@@ -220,7 +220,7 @@ fn put<'a>(
     Ok(())
 }
 
-/// The text of a name or a path.
+/// Returns the text of a parameter that is a name or a path.
 pub fn written(alloc: Global, parameter: &Parameter) -> Result<Option<String>, AllocError>
     ensures { IfOk result (λ text. option_map string_bytes text ≡ as_name (param_view parameter.now)) }
 {

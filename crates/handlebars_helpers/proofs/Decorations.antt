@@ -1,7 +1,7 @@
 -- What `inline` does.
 use Rattle.std.proofs.Common.{◌≡◌, [], ◌∷◌, Some, codes, ap, ◌∙◌}
 use Rattle.serde_json.specs.Data.{Data, null, boolean, number, string, array, object}
-use Rattle.handlebars_base.specs.Answers.{Answer, gives, refuses}
+use Rattle.handlebars_base.specs.Answers.{Answer, gives, fails}
 use Rattle.handlebars_base.specs.Bytes.{Text}
 use Rattle.handlebars_base.specs.Optional.{with_or}
 use Rattle.handlebars_base.specs.PathAndData.{PathAndData}
@@ -10,11 +10,11 @@ use Rattle.handlebars_base.specs.RenderRefusals.{plain_refusal}
 use Rattle.handlebars_base.specs.Scoped.{data_in}
 use Rattle.handlebars_template.specs.Tree.{Tree, Body, no_body, body}
 use Rattle.handlebars_helpers.specs.CallView.{param_at}
-use Rattle.handlebars_helpers.specs.Decoration.{DecoratorView, sets_partial, by_text, by_body, inline_deeds}
+use Rattle.handlebars_helpers.specs.Decoration.{DecoratorView, sets_partial, by_text, by_body, inline_actions}
 
 text_in : Answer Text → Text
 text_in (gives t) = t
-text_in (refuses r) = []
+text_in (fails r) = []
 
 by_text-gives : {A : Type 0} (d : Data) (f : Text → Answer A) (t : Text) → by_text d (λ x. gives x) ≡ gives t
     → by_text d f ≡ f t
@@ -28,20 +28,20 @@ by_text-gives (object ms) f t is = cc
 
 refusal_in : Refusal → Answer Tree → Refusal
 refusal_in q (gives t) = q
-refusal_in q (refuses r) = r
+refusal_in q (fails r) = r
 
-by_body-refuses : {A : Type 0} (b : Body) (f : Tree → Answer A) (r : Refusal) → by_body b (λ t. gives t) ≡ refuses r
-    → by_body b f ≡ refuses r
+by_body-fails : {A : Type 0} (b : Body) (f : Tree → Answer A) (r : Refusal) → by_body b (λ t. gives t) ≡ fails r
+    → by_body b f ≡ fails r
 unfolding refusal_in
-by_body-refuses no_body f r is = ap (λ a. refuses (refusal_in r a)) is
-by_body-refuses (body t) f r is = cc
+by_body-fails no_body f r is = ap (λ a. fails (refusal_in r a)) is
+by_body-fails (body t) f r is = cc
 
--- a tag without a body, behind a name
-pub inline-refuses : (v : DecoratorView) (p : PathAndData) (name : Text) (r : Refusal) → param_at 0 v.call ≡ Some p
-    → by_text (data_in p.found) (λ t. gives t) ≡ gives name → by_body v.body (λ t. gives t) ≡ refuses r
-    → inline_deeds v ≡ refuses r
-inline-refuses v p name r first is_text lacks =
+-- a tag without a body, after a name
+pub inline-fails : (v : DecoratorView) (p : PathAndData) (name : Text) (r : Refusal) → param_at 0 v.call ≡ Some p
+    → by_text (data_in p.found) (λ t. gives t) ≡ gives name → by_body v.body (λ t. gives t) ≡ fails r
+    → inline_actions v ≡ fails r
+inline-fails v p name r first is_text lacks =
     ap (λ o. with_or o (λ q. by_text (data_in q.found) (λ n. by_body v.body (λ t. gives (sets_partial n ∷ []))))
-    (refuses (plain_refusal (param_not_found_for_index (codes "inline") 0)))) first
+    (fails (plain_refusal (param_not_found_for_index (codes "inline") 0)))) first
     ∙ by_text-gives (data_in p.found) (λ n. by_body v.body (λ t. gives (sets_partial n ∷ []))) name is_text
-    ∙ by_body-refuses v.body (λ t. gives (sets_partial name ∷ [])) r lacks
+    ∙ by_body-fails v.body (λ t. gives (sets_partial name ∷ [])) r lacks

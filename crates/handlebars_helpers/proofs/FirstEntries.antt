@@ -1,4 +1,4 @@
--- Entries behind the rows of a table.
+-- The entries after the rows of a table are inserted.
 use Rattle.std.proofs.Common.{◌≡◌, ℕ, ◌≤◌, cond, List, [], ◌∷◌, take, length, map, Option, Some, None, option_map, codes, bytes_eq, refl, sym, ap, ◌∙◌, arith}
 use Rattle.std.proofs.lemmas.Cmp.{nat_list_eq_equiv}
 use Rattle.std.proofs.lemmas.List.{length-map, take_all}
@@ -7,7 +7,7 @@ use Rattle.std.specs.Map.{keys_of, lookup, update, update_all}
 use Rattle.handlebars_base.specs.Bytes.{Text}
 use Rattle.handlebars_base.proofs.OptionBinds.{option_map-cond}
 use Rattle.handlebars_helpers.specs.Callee.{Callee, built, first_callee}
-use Rattle.handlebars_helpers.specs.Choice.{Kind, built_ins}
+use Rattle.handlebars_helpers.specs.Choice.{BuiltInKind, built_ins}
 use Rattle.handlebars_helpers.specs.Decoration.{DecoratorKind, kind_inline, built_in_decorators, built_in_decorator}
 use Rattle.handlebars_helpers.proofs.Seen.{seen-put}
 
@@ -21,22 +21,22 @@ seen-inserted {E = E} seen old new key name entry is_name puts other =
     seen-put seen name other (Some entry) (old other) (new other)
     (puts other ∙ ap (λ (n : Text). cond (bytes_eq n other) (Some entry) (old other)) is_name)
 
-abbrev built_row : Text × Kind → Text × Callee
+abbrev built_row : Text × BuiltInKind → Text × Callee
 built_row row = (row.0, built row.1)
 
-lookup-built_row : (name : Text) (rows : List (Text × Kind))
+lookup-built_row : (name : Text) (rows : List (Text × BuiltInKind))
     → lookup (bytes_eq name) (map built_row rows) ≡ option_map (λ k. built k) (lookup (bytes_eq name) rows)
 lookup-built_row name [] = refl
 lookup-built_row name (row ∷ rows) =
     ap (cond (bytes_eq name row.0) (Some (built row.1))) (lookup-built_row name rows)
     ∙ sym (option_map-cond (λ k. built k) (bytes_eq name row.0) row.1 (lookup (bytes_eq name) rows))
 
-map-built_row : {A : Type 0} (row : A → Text × Kind) (xs : List A) → map (λ x. built_row (row x)) xs ≡ map built_row (map row xs)
+map-built_row : {A : Type 0} (row : A → Text × BuiltInKind) (xs : List A) → map (λ x. built_row (row x)) xs ≡ map built_row (map row xs)
 map-built_row row [] = refl
 map-built_row row (x ∷ xs) = ap (◌∷◌ (built_row (row x))) (map-built_row row xs)
 
--- once every row is inserted: no two names are the same
-pub update_all-built_ins : {A : Type 0} (row : A → Text × Kind) (xs : List A) (i : ℕ) (f : Text → Option Callee)
+-- after every row is inserted: no two names are the same
+pub update_all-built_ins : {A : Type 0} (row : A → Text × BuiltInKind) (xs : List A) (i : ℕ) (f : Text → Option Callee)
     → map row xs ≡ built_ins → length built_ins ≤ i
     → ((other : Text) → f other ≡ update_all bytes_eq (λ _. None) (map (λ x. ((row x).0, built (row x).1)) (take i xs)) other)
     → (name : Text) → f name ≡ first_callee name
@@ -51,7 +51,7 @@ update_all-built_ins row xs i f is past so_far name =
 
 -- ---- decorators
 
--- `inline`, put where nothing stands
+-- `inline`, put into an empty map
 pub kinds-first : {E : Type 0} (kind : Text → E → DecoratorKind) (old new : Text → Option E) (key : Text) (entry : E)
     → key ≡ codes "inline" → ((name : Text) → old name ≡ None)
     → ((name : Text) → new name ≡ cond (bytes_eq key name) (Some entry) (old name))

@@ -1,11 +1,11 @@
-mod Pairs
+mod Hash
 mod Names
-mod Turns
+mod Iterations
 mod Sizes
 mod Values
 mod Marked
 mod Seen
 mod FirstEntries
 mod Decorations
-mod Refused
+mod Failed
 mod OneAnswer

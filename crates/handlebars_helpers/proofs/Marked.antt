@@ -1,4 +1,4 @@
--- Marks of names, beside the helpers that they tell of.
+-- Marks of names, and the entries that they stand for.
 use Rattle.std.proofs.Common.{◌≡◌, Bool, true, false, cond, List, [], Option, Some, None, is_some, Result, Ok, Err, OnOk, OnErr, String, Global, string_bytes, nat_cmp, bytes_eq, refl, sym, ap, ◌∙◌}
 use Rattle.std.proofs.lemmas.Bool.{false≢true}
 use Rattle.std.proofs.lemmas.Map.Text.{btree_map_updates_text}
@@ -20,7 +20,7 @@ among name es = lookup (is_at (λ k. slice_cmp nat_cmp name (string_bytes k))) e
 pub empty-none : {E : Type 0} (m : BTreeMap (String Global) E) → m.entries ≡ [] → (name : Text) → get_by_text m name ≡ None
 empty-none m empty name = ap (among name) empty
 
--- a name beside the one that an entry is put under
+-- another name than the one under which an entry is put
 marked-put : {E : Type 0} (name other : Text) (e : E) (o : Option E) (m : Text → Bool) → m name ≡ true
     → (is_some o ≡ true → m other ≡ true)
     → is_some (cond (bytes_eq name other) (Some e) o) ≡ true → m other ≡ true
@@ -34,11 +34,11 @@ marked-none : {E : Type 0} (b : Bool) (o : Option E) → is_some (cond b None o)
 marked-none true o is = absurd (false≢true is)
 marked-none false o is = is
 
--- What is in the map has its mark.
+-- Every name in the map is marked.
 abbrev AllMarked : {E : Type 0} → List Bool → BTreeMap (String Global) E → Type 0
 AllMarked marks m = (name : Text) → is_some (get_by_text m name) ≡ true → is_marked marks name ≡ true
 
--- a map in which an entry was put, or in which memory for it was refused
+-- a map in which an entry was inserted, or in which memory for it ran out
 pub marked-inserted : {T R E : Type 0} (r : Result T R) (m n : BTreeMap (String Global) E) (key : String Global)
     (entry : E) (marks : List Bool) → OnOk r (UpdatesBy string_cmp (string_cmp key) m n (Some entry))
     → OnErr r (IsUnchanged m n) → is_marked marks (string_bytes key) ≡ true → AllMarked marks m → AllMarked marks n

@@ -22,7 +22,7 @@ map-string_bytes-pointwise (x ∷ xs) (y ∷ ys) same =
     let first = sym (same_text (string_bytes x) (string_bytes y) h.0) in
     λ i. first i ∷ map-string_bytes-pointwise xs ys h.1 i
 
--- a path that begins with another one, cut there
+-- a path that begins with another one, truncated to its length
 pub map-string_bytes-take : (xs ys zs : List (String Global)) (n : ℕ)
     → true ≡ starts_with string_eq xs ys → n ≡ length ys → zs ≡ take n xs
     → map string_bytes zs ≡ map string_bytes ys
@@ -32,7 +32,7 @@ map-string_bytes-take xs ys zs n starts long is =
 
 -- ---- the last name of a path
 
--- another name in the place of the last one
+-- another name instead of the last one
 pub last-replaced : (path : List Text) (x y : Text) (xs : List (String Global)) (w : String Global) (n : ℕ)
     → n ≡ length xs → map string_bytes xs ≡ path ++ (x ∷ []) → string_bytes w ≡ y
     → map string_bytes (slice_set xs (n - 1) w) ≡ path ++ (y ∷ [])

@@ -1,21 +1,21 @@
--- Nothing that is registered has two answers to one question, since nothing that is kept has.
+-- Nothing that is registered has two answers to one question, because nothing that is stored has.
 use Rattle.std.proofs.Common.{◌≡◌, List, Option, Some, None, sym, ◌∙◌}
 use Rattle.handlebars_base.specs.Answers.{Answer}
 use Rattle.handlebars_base.specs.Bytes.{Text}
-use Rattle.handlebars_helpers.specs.Decoration.{Deed}
-use Rattle.handlebars_helpers.specs.DecoratorEntryView.{own_decorator_at}
-use Rattle.handlebars_helpers.specs.EntryView.{own_at}
-use Rattle.handlebars_helpers.specs.EscapeView.{own_escape_of}
-use Rattle.handlebars_helpers.specs.Own.{HelperQuestion, AnswersOnce, HasOne, Offer, Step}
-use Rattle.handlebars_helpers.specs.OwnDecorator.{DecoratorQuestion}
+use Rattle.handlebars_helpers.specs.Decoration.{Action}
+use Rattle.handlebars_helpers.specs.DecoratorEntryView.{user_decorator_at}
+use Rattle.handlebars_helpers.specs.EntryView.{user_at}
+use Rattle.handlebars_helpers.specs.EscapeView.{user_escape_of}
+use Rattle.handlebars_helpers.specs.UserHelper.{HelperQuestion, AnswersOnce, HasOne, Offer, Step}
+use Rattle.handlebars_helpers.specs.UserDecorator.{DecoratorQuestion}
 use Rattle.handlebars_helpers.specs.declared.decorators.entry.DecoratorEntryOf.{DecoratorEntryOf}
 use Rattle.handlebars_helpers.specs.declared.decorators.entry.DecoratorEntryOf.TheVariants as decorator
 use Rattle.handlebars_helpers.specs.declared.escape.EscapeKindOf.{EscapeKindOf}
 use Rattle.handlebars_helpers.specs.declared.escape.EscapeKindOf.TheVariants as kind
-use Rattle.handlebars_helpers.specs.declared.own.entry.HelperEntryOf.{HelperEntryOf}
-use Rattle.handlebars_helpers.specs.declared.own.entry.HelperEntryOf.TheVariants.{Built, Own, Function}
+use Rattle.handlebars_helpers.specs.declared.user.entry.HelperEntryOf.{HelperEntryOf}
+use Rattle.handlebars_helpers.specs.declared.user.entry.HelperEntryOf.TheVariants.{Built, Own, Function}
 
--- what is known has one answer
+-- a fixed answer is the only one
 one-known : {A : Type 0} (k : Answer A) → HasOne (λ a. a ≡ k)
 one-known k x y p r = ∣ p ∙ sym r ∣₁
 
@@ -27,27 +27,27 @@ module _ {B F : Type 0} (has_steps : B → HelperQuestion → Answer (Option (Li
     (one_offer : (h : B) (q : HelperQuestion) → HasOne (has_offer h q))
     (one_function_steps : (f : F) (q : HelperQuestion) → HasOne (function_steps f q))
     (one_function_offer : (f : F) (q : HelperQuestion) → HasOne (function_offer f q)) where
-  pub own_at-once : (name : Text) (o : Option (HelperEntryOf B F))
-      → AnswersOnce (own_at has_steps has_offer function_steps function_offer name o)
-  own_at-once name None = record { steps = λ q. one-known _; offer = λ q. one-known _ }
-  own_at-once name (Some (Built b)) = record { steps = λ q. one-known _; offer = λ q. one-known _ }
-  own_at-once name (Some (Own h)) = record { steps = one_steps h; offer = one_offer h }
-  own_at-once name (Some (Function f)) = record { steps = one_function_steps f; offer = one_function_offer f }
+  pub user_at-once : (name : Text) (o : Option (HelperEntryOf B F))
+      → AnswersOnce (user_at has_steps has_offer function_steps function_offer name o)
+  user_at-once name None = record { steps = λ q. one-known _; offer = λ q. one-known _ }
+  user_at-once name (Some (Built b)) = record { steps = λ q. one-known _; offer = λ q. one-known _ }
+  user_at-once name (Some (Own h)) = record { steps = one_steps h; offer = one_offer h }
+  user_at-once name (Some (Function f)) = record { steps = one_function_steps f; offer = one_function_offer f }
 
-module _ {D G : Type 0} (has_deeds : D → DecoratorQuestion → Answer (List Deed) → Type 0)
-    (function_deeds : G → DecoratorQuestion → Answer (List Deed) → Type 0)
-    (one_deeds : (d : D) (q : DecoratorQuestion) → HasOne (has_deeds d q))
-    (one_function_deeds : (f : G) (q : DecoratorQuestion) → HasOne (function_deeds f q)) where
-  pub own_decorator_at-once : (name : Text) (o : Option (DecoratorEntryOf D G)) (q : DecoratorQuestion)
-      → HasOne (own_decorator_at has_deeds function_deeds name o q)
-  own_decorator_at-once name None q = one-known _
-  own_decorator_at-once name (Some decorator.Inline) q = one-known _
-  own_decorator_at-once name (Some (decorator.Own d)) q = one_deeds d q
-  own_decorator_at-once name (Some (decorator.Function f)) q = one_function_deeds f q
+module _ {D G : Type 0} (has_actions : D → DecoratorQuestion → Answer (List Action) → Type 0)
+    (function_actions : G → DecoratorQuestion → Answer (List Action) → Type 0)
+    (one_actions : (d : D) (q : DecoratorQuestion) → HasOne (has_actions d q))
+    (one_function_actions : (f : G) (q : DecoratorQuestion) → HasOne (function_actions f q)) where
+  pub user_decorator_at-once : (name : Text) (o : Option (DecoratorEntryOf D G)) (q : DecoratorQuestion)
+      → HasOne (user_decorator_at has_actions function_actions name o q)
+  user_decorator_at-once name None q = one-known _
+  user_decorator_at-once name (Some decorator.Inline) q = one-known _
+  user_decorator_at-once name (Some (decorator.Own d)) q = one_actions d q
+  user_decorator_at-once name (Some (decorator.Function f)) q = one_function_actions f q
 
 module _ {X : Type 0} (has_escaped : X → Text → Answer Text → Type 0)
     (one_escaped : (e : X) (t : Text) → HasOne (has_escaped e t)) where
-  pub own_escape_of-once : (e : EscapeKindOf X) (t : Text) → HasOne (own_escape_of has_escaped e t)
-  own_escape_of-once kind.Html t = one-known _
-  own_escape_of-once kind.Plain t = one-known _
-  own_escape_of-once (kind.Own e) t = one_escaped e t
+  pub user_escape_of-once : (e : EscapeKindOf X) (t : Text) → HasOne (user_escape_of has_escaped e t)
+  user_escape_of-once kind.Html t = one-known _
+  user_escape_of-once kind.Plain t = one-known _
+  user_escape_of-once (kind.Own e) t = one_escaped e t

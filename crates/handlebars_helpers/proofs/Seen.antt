@@ -4,7 +4,7 @@ use Rattle.std.specs.Str.{bytes_eq}
 use Rattle.std.proofs.lemmas.Slice.Eq.{bytes_eq-Decides}
 use Rattle.handlebars_base.specs.Bytes.{Text}
 
--- what an entry is under its own name, behind a change of what stands there
+-- what an entry is seen as under its own name, after a change of what is there
 pub seen-put : {E C : Type 0} (seen : Text → E → C) (name other : Text) (entry old new : Option E)
     → new ≡ cond (bytes_eq name other) entry old
     → option_map (seen other) new ≡ cond (bytes_eq name other) (option_map (seen name) entry) (option_map (seen other) old)

@@ -3,7 +3,7 @@ use Rattle.std.proofs.Common.{◌≡◌, suc, length, List, [], ◌∷◌, Strin
 use native.Mathlib.Numerals.{unary_clauses}
 use Rattle.serde_json.specs.View.{items_view, members_view}
 use Rattle.serde_json.specs.declared.value.Value.{Value}
-use Rattle.handlebars_helpers.specs.Turns.{item_count, member_count}
+use Rattle.handlebars_helpers.specs.Iterations.{item_count, member_count}
 
 pub length-item_count : (vs : List Value) → length vs ≡ item_count (items_view vs)
 length-item_count [] = refl

@@ -1,21 +1,21 @@
--- What callers' functions answer, which stand for helpers and for decorators.
+-- What functions answer that callers use as helpers and decorators.
 use Rattle.std.specs.Prelude.{◌≡◌, ◌≢◌, Bool, Option, Result, MatchResult}
 use Rattle.std.specs.Borrow.{Bor}
 use Rattle.std.specs.Coded.{Π_prop, →_prop}
 use Rattle.std.proofs.Math.Logic.{∥∥₁_prop}
-use Rattle.handlebars_base.specs.Answers.{Answer, gives, refuses_for}
+use Rattle.handlebars_base.specs.Answers.{Answer, gives, fails_for}
 use Rattle.handlebars_base.specs.Reasons.{out_of_memory}
 use Rattle.handlebars_scope.specs.declared.context.Context.{Context}
-use Rattle.handlebars_helpers.specs.FnRefusals.{refused_for}
-use Rattle.handlebars_helpers.specs.Own.{HasOne}
+use Rattle.handlebars_helpers.specs.FnRefusals.{fn_reason}
+use Rattle.handlebars_helpers.specs.UserHelper.{HasOne}
 use Rattle.handlebars_helpers.specs.declared.refusal.FnRefusal.{FnRefusal}
 
--- What a call that was made says, which is nothing at want of memory.
+-- What the result of a call says, which is nothing if memory ran out.
 abbrev pub ResultSays : {T A : Type 0} → (T → A) → Result T FnRefusal → Answer A → Type 0
 ResultSays seen r a =
-    MatchResult r (λ x. a ≡ gives (seen x)) (λ e. (refused_for e ≢ out_of_memory) × (a ≡ refuses_for (refused_for e)))
+    MatchResult r (λ x. a ≡ gives (seen x)) (λ e. (fn_reason e ≢ out_of_memory) × (a ≡ fails_for (fn_reason e)))
 
--- the results that a function may have: for a view, the data, the data in its place, and whether the mode is strict
+-- the results that a function may have: for a view, the given data, the data that replaced it, and whether the mode is strict
 abbrev pub Results : Type 0 → Type 0 → Type 1
 Results V T = Bor V → Bor Context → Bor (Option (Bor Context)) → Bool → Result T FnRefusal → Type 0
 
@@ -31,7 +31,7 @@ module _ {V Q T A : Type 0} (asked : V → Context → Option (Bor Context) → 
     pub has : results view given changed strict result
     pub says : ResultSays seen result a
 
-  -- To each question there is at most one answer, whichever call asks it.
+  -- There is at most one answer to each question, whichever call asks it.
   abbrev pub AnswersOnceAt : Results V T → Type 0
   AnswersOnceAt results = (q : Q) → HasOne (AnswersAt results q)
 

@@ -1,4 +1,4 @@
-//! What the boolean helpers say, and `len`.
+//! What the boolean helpers and `len` evaluate to.
 
 ghost use Rattle.std.specs.Prelude.{◌≡◌, IfOk, codes, map};
 ghost use Rattle.serde_json.specs.View.{view};
@@ -125,7 +125,8 @@ pub(crate) fn some_true(params: &Vec<PathAndJson>) -> bool
     false
 }
 
-/// `len`: the size of the first parameter.
+/// `len`: returns the size of the first parameter. Fails with `ParamNotFoundForName` if there is none or, in
+/// strict mode, if its value is missing.
 pub(crate) fn len(alloc: Global, strict: bool, helper: &Helper) -> Result<usize, RenderError>
     ensures { Answers (λ n. n) result (len strict (helper_view helper.now).call) }
 {
@@ -141,7 +142,7 @@ pub(crate) fn len(alloc: Global, strict: bool, helper: &Helper) -> Result<usize,
     }
 }
 
-// The refusal of a call without its parameter.
+// The error of a call without its parameter.
 fn no_x(alloc: Global) -> Result<RenderError, AllocError>
     ensures { IfOk result (λ e. refusal_of e ≡ plain_refusal (param_not_found_for_name (codes "len") (codes "x"))) }
 {
@@ -149,7 +150,7 @@ fn no_x(alloc: Global) -> Result<RenderError, AllocError>
     Ok(RenderErrorReason::ParamNotFoundForName("len", name).into())
 }
 
-// The bytes of a text, the members of an array or an object.
+// The number of bytes of a string, or of members of an array or an object; 0 for any other value.
 fn size(value: &Json) -> usize
     ensures { result ≡ size (view value.now) }
 {

@@ -2,50 +2,50 @@
 
 ghost use Rattle.std.specs.Prelude.{◌≡◌, map};
 ghost use Rattle.handlebars_helpers.specs.Choice.{built_ins};
-ghost use Rattle.handlebars_helpers.specs.View.{kind_of};
+ghost use Rattle.handlebars_helpers.specs.View.{built_in_kind};
 
-/// A helper that every registry begins with.
+/// A helper that every registry has from the start.
 #[derive(Clone, Copy, Debug, PartialEq, Eq)]
 pub enum BuiltIn {
-    /// Renders its body where its parameter counts as true, else its inverse.
+    /// Renders its body if its parameter counts as true, otherwise its inverse.
     If,
-    /// Renders its inverse where its parameter counts as true, else its body.
+    /// Renders its inverse if its parameter counts as true, otherwise its body.
     Unless,
-    /// Renders its body for each member of its parameter, in a block of scope.
+    /// Renders its body for each member of its parameter, in a scope frame.
     Each,
-    /// Renders its body in a block of scope that stands at its parameter.
+    /// Renders its body in a scope frame whose base is its parameter.
     With,
-    /// The member of its first parameter by its second one.
+    /// Evaluates to the member of its first parameter under its second one.
     Lookup,
     /// Renders its body.
     Raw,
-    /// Writes a line to the logger, and nothing in its place.
+    /// Writes a line to the logger, and nothing to the output.
     Log,
-    /// Whether two values are equal.
+    /// Tests whether two values are equal.
     Eq,
-    /// Whether they aren't.
+    /// Tests whether two values differ.
     Ne,
-    /// Whether the first value is greater.
+    /// Tests whether the first value is greater.
     Gt,
-    /// Whether it is greater or equal.
+    /// Tests whether the first value is greater or equal.
     Gte,
-    /// Whether it is less.
+    /// Tests whether the first value is less.
     Lt,
-    /// Whether it is less or equal.
+    /// Tests whether the first value is less or equal.
     Lte,
-    /// Whether all parameters count as true.
+    /// Tests whether all parameters count as true.
     And,
-    /// Whether some parameter does.
+    /// Tests whether some parameter counts as true.
     Or,
-    /// Whether its parameter doesn't.
+    /// Tests whether its parameter does not count as true.
     Not,
-    /// The bytes of a text, the members of an array or an object.
+    /// Evaluates to the number of bytes of a string, or of members of an array or an object.
     Len,
 }
 
-/// The built-in helpers and their names.
+/// Returns the built-in helpers and their names.
 pub fn table() -> [(&'static str, BuiltIn); 17]
-    ensures { map (λ row. (row.0.now, kind_of row.1)) result ≡ built_ins }
+    ensures { map (λ row. (row.0.now, built_in_kind row.1)) result ≡ built_ins }
 {
     [
         ("if", BuiltIn::If),

@@ -3,17 +3,17 @@
 ghost use Rattle.std.specs.Prelude.{◌≡◌, ◌<◌, None, OnErr, OnOk, Some, is_some, length, option_map, string_bytes, true};
 ghost use Rattle.std.specs.BTreeMap.{get_by_text};
 ghost use Rattle.handlebars_base.specs.Bytes.{Text};
-ghost use Rattle.handlebars_helpers.specs.Marks.{is_marked, place_of};
+ghost use Rattle.handlebars_helpers.specs.Marks.{is_marked, bucket_of};
 
 use std::alloc::{AllocError, Global};
 use std::collections::BTreeMap;
 
-/// Entries by name, of helpers or of decorators. A rendering asks for a helper at each name that it comes
-/// to, and most names have none, which the marks mostly tell without a search.
+/// Entries by name, of helpers or of decorators. A rendering looks up a helper for each name that it reaches,
+/// and most names have none. The marks usually show that without a search.
 #[derive(Drop)]
 pub struct ByName<E> {
     by_name: BTreeMap<String, E>,
-    // The places of all names that have an entry, and of some that had one.
+    // The marked buckets: those of all names that have an entry, and of some that had one.
     marks: [bool; 256],
     ghost marked: { (name : Text) → is_some (get_by_text by_name name) ≡ true → is_marked marks name ≡ true },
 }
@@ -21,7 +21,7 @@ pub struct ByName<E> {
 impl<E: Drop> ByName<E> {
     ghost use Rattle.handlebars_helpers.specs.ByNameView.{HasSame, PutsEntry, entry_at};
 
-    /// No entries.
+    /// Creates a map without entries.
     pub fn new(alloc: Global) -> ByName<E>
         ensures { (name : Text) → entry_at result name ≡ None }
     {
@@ -31,18 +31,18 @@ impl<E: Drop> ByName<E> {
         }
     }
 
-    /// The entry under a name, if there is one.
+    /// Returns the entry under a name, if there is one. A name whose bucket isn't marked is not searched for.
     #[inline(always)]
     pub fn get(&self, name: &str) -> Option<&E>
         ensures { option_map (λ entry. entry.now) result ≡ entry_at self.now name.now }
     {
-        if !self.marks[place_of(name)] {
+        if !self.marks[mark_index_of(name)] {
             return None;
         }
         self.search(name)
     }
 
-    // Apart from the call above, which is a part of each of its callers.
+    // Not inlined, unlike the caller above, which is a part of each of its callers.
     #[inline(never)]
     fn search(&self, name: &str) -> Option<&E>
         ensures { option_map (λ entry. entry.now) result ≡ entry_at self.now name.now }
@@ -50,7 +50,11 @@ impl<E: Drop> ByName<E> {
         self.by_name.get(name)
     }
 
-    /// Puts an entry under a name, in place of one that stood there. Where memory is refused, none is changed.
+    /// Inserts an entry under a name, and replaces the one that was there.
+    ///
+    /// # Errors
+    ///
+    /// Returns `AllocError` if memory runs out; then no entry is changed.
     pub fn insert(&mut self, name: String, entry: E) -> Result<(), AllocError>
         ensures ok { OnOk result (PutsEntry self.old self.new (string_bytes name) (Some entry)) }
         ensures err { OnErr result (HasSame self.old self.new) }
@@ -60,7 +64,7 @@ impl<E: Drop> ByName<E> {
         Ok(())
     }
 
-    /// Takes the entry under a name away, where one stands there.
+    /// Removes the entry under a name, if there is one.
     pub fn remove(&mut self, name: &str)
         ensures { PutsEntry self.old self.new name.now None }
     {
@@ -68,19 +72,20 @@ impl<E: Drop> ByName<E> {
     }
 }
 
-// Marks the place of a name beside those that are marked.
+// Marks the bucket of a name; marked buckets stay marked.
 fn mark(marks: &mut [bool; 256], name: &str)
     ensures marked { is_marked marks.new name.now ≡ true }
-    ensures kept { (other : Text) → is_marked marks.old other ≡ true → is_marked marks.new other ≡ true }
+    ensures unchanged { (other : Text) → is_marked marks.old other ≡ true → is_marked marks.new other ≡ true }
     ensures length { length marks.new ≡ 256 }
 {
-    marks[place_of(name)] = true;
+    marks[mark_index_of(name)] = true;
 }
 
-// The place of a name among the marks. Names of different first letters mostly have different places, and so have those
-// of different second ones: `id`, which most templates ask for, isn't looked for because there is an `if`.
-fn place_of(name: &str) -> usize
-    ensures place { result ≡ place_of name.now }
+// The bucket of a name. Names with different first letters mostly have different buckets, and so have names
+// with different second letters: `id`, which most templates use, is not searched for merely because there is an
+// `if`.
+fn mark_index_of(name: &str) -> usize
+    ensures mark_index { result ≡ bucket_of name.now }
     ensures within { result < 256 }
 {
     let letters = match name.as_bytes() {

@@ -7,16 +7,16 @@ ghost use Rattle.handlebars_base.specs.Answers.{Answers};
 ghost use Rattle.handlebars_base.specs.PathAndData.{path_and_data};
 ghost use Rattle.handlebars_base.specs.Reasons.{missing_variable};
 ghost use Rattle.handlebars_base.specs.RenderRefusals.{plain_refusal, refusal_of};
-ghost use Rattle.handlebars_helpers.specs.Choice.{body_if, built_in_choice, condition, each_choice, includes_zero, inverse_or_refusal, looked_up, lookup_choice, of_two, turns_or_inverse, with_choice};
+ghost use Rattle.handlebars_helpers.specs.Choice.{body_if, built_in_choice, condition, each_choice, includes_zero, inverse_or_refusal, looked_up, lookup_choice, of_two, iterations_or_inverse, with_choice};
 ghost use Rattle.handlebars_helpers.specs.Choice.{kind_and, kind_each, kind_if, kind_len, kind_log, kind_lookup, kind_not, kind_or, kind_unless, kind_with};
-ghost use Rattle.handlebars_helpers.specs.Turns.{turns_of};
-ghost use Rattle.handlebars_helpers.specs.View.{choice_of, helper_view, kind_of, path_view, test_of};
+ghost use Rattle.handlebars_helpers.specs.Iterations.{iterations_of};
+ghost use Rattle.handlebars_helpers.specs.View.{choice_view, helper_view, built_in_kind, path_view, test_of};
 
 use crate::boolean::{Test, all_true, len, negation, some_true};
 use crate::built_in::BuiltIn;
+use crate::iteration::Base;
 use crate::log_line::log_record;
 use crate::params::{parameter, two_values};
-use crate::turn::Base;
 use crate::view::Helper;
 use handlebars_base::error::{RenderError, RenderErrorReason};
 use handlebars_base::json::value::{Json, JsonTruthy, PathAndJson};
@@ -24,39 +24,49 @@ use log::Level;
 use serde_json::Map;
 use std::alloc::{AllocError, Global};
 
-/// What is rendered in the place of a call. It borrows what it is about from the call's view.
+/// What is rendered for a call. It borrows its values from the call's view.
 #[derive(Drop)]
 pub enum Choice<'h> {
-    /// The body, where the call has it.
+    /// The body, if the call has one.
     Body,
-    /// What stands behind `else`, where the call has it.
+    /// The inverse (what follows `else`), if the call has one.
     Inverse,
-    /// The body, in a block of scope that stands here.
+    /// The body, in a scope frame with this base.
     Block(Base<'h>),
     /// The body, for each item of an array, which has this path in the data, if it has one.
     Items(Option<&'h Vec<String>>, &'h Vec<Json>),
     /// The body, for each member of an object, which has this path in the data, if it has one.
     Members(Option<&'h Vec<String>>, &'h Map<String, Json>),
-    /// A value; null where there is none.
+    /// A value, or null if there is none.
     Value(Option<&'h Json>),
     /// A number.
     Count(usize),
-    /// The word of a boolean helper; of a block the body or the inverse, by it.
-    Word(bool),
-    /// A line for the logger, and nothing in its place.
+    /// The text of a boolean helper; in a block it selects the body or the inverse.
+    Boolean(bool),
+    /// A line for the logger, and nothing in the output.
     Line(Level, String),
     Nothing,
 }
 
-/// What a built-in helper chooses for a call, in strict mode or not. A refusal and a line for the
-/// logger take memory.
+/// Returns what a built-in helper chooses for a call, in strict mode or not. An error and a line for the logger
+/// allocate memory.
+///
+/// # Errors
+///
+/// - `ParamNotFoundForIndex` if a required parameter of a helper other than `len` is absent. In strict mode a
+///   missing value counts as absent for the tests of two values and for `not`.
+/// - `ParamNotFoundForName` if the parameter of `len` is absent or, in strict mode, if its value is missing.
+/// - `MissingVariable` in strict mode: if `each` or `with` chooses an inverse that the call doesn't have, or
+///   `lookup` finds nothing.
+/// - `InvalidLoggingLevel` if `level` of `log` names no level.
+/// - `OutOfMemory` if memory runs out.
 pub fn choose<'h>(
     alloc: Global,
     strict: bool,
     kind: BuiltIn,
     helper: &'h Helper,
 ) -> Result<Choice<'h>, RenderError>
-    ensures { Answers choice_of result (built_in_choice strict (kind_of kind) (helper_view helper.now)) }
+    ensures { Answers choice_view result (built_in_choice strict (built_in_kind kind) (helper_view helper.now)) }
 {
     match kind {
         BuiltIn::If => choose_if(helper),
@@ -79,18 +89,19 @@ pub fn choose<'h>(
     }
 }
 
-// ---- what each kind chooses, a function each
+// ---- what each kind chooses, one function for each
 //
-// Where strict mode changes nothing, the clause says `chosen false`, which is `chosen true` as well.
+// Where strict mode changes nothing, the clause says `built_in_choice false`. There `built_in_choice true` is
+// the same.
 
 fn choose_if<'h>(helper: &Helper) -> Result<Choice<'h>, RenderError>
-    ensures { Answers choice_of result (built_in_choice false kind_if (helper_view helper.now)) }
+    ensures { Answers choice_view result (built_in_choice false kind_if (helper_view helper.now)) }
 {
     Ok(body_if(condition(helper)?))
 }
 
 fn choose_unless<'h>(helper: &Helper) -> Result<Choice<'h>, RenderError>
-    ensures { Answers choice_of result (built_in_choice false kind_unless (helper_view helper.now)) }
+    ensures { Answers choice_view result (built_in_choice false kind_unless (helper_view helper.now)) }
 {
     Ok(body_if(!condition(helper)?))
 }
@@ -100,7 +111,7 @@ fn choose_each<'h>(
     strict: bool,
     helper: &'h Helper,
 ) -> Result<Choice<'h>, RenderError>
-    ensures { Answers choice_of result (built_in_choice strict kind_each (helper_view helper.now)) }
+    ensures { Answers choice_view result (built_in_choice strict kind_each (helper_view helper.now)) }
 {
     each_choice(alloc, strict, helper, parameter(helper, "each", 0)?)
 }
@@ -110,13 +121,13 @@ fn choose_with<'h>(
     strict: bool,
     helper: &'h Helper,
 ) -> Result<Choice<'h>, RenderError>
-    ensures { Answers choice_of result (built_in_choice strict kind_with (helper_view helper.now)) }
+    ensures { Answers choice_view result (built_in_choice strict kind_with (helper_view helper.now)) }
 {
     with_choice(alloc, strict, helper, parameter(helper, "with", 0)?)
 }
 
 fn choose_lookup<'h>(strict: bool, helper: &'h Helper) -> Result<Choice<'h>, RenderError>
-    ensures { Answers choice_of result (built_in_choice strict kind_lookup (helper_view helper.now)) }
+    ensures { Answers choice_view result (built_in_choice strict kind_lookup (helper_view helper.now)) }
 {
     let value = parameter(helper, "lookup", 0)?;
     let key = parameter(helper, "lookup", 1)?;
@@ -124,7 +135,7 @@ fn choose_lookup<'h>(strict: bool, helper: &'h Helper) -> Result<Choice<'h>, Ren
 }
 
 fn choose_line<'h>(alloc: Global, helper: &Helper) -> Result<Choice<'h>, RenderError>
-    ensures { Answers choice_of result (built_in_choice false kind_log (helper_view helper.now)) }
+    ensures { Answers choice_view result (built_in_choice false kind_log (helper_view helper.now)) }
 {
     let (level, text) = log_record(alloc, helper)?;
     Ok(Choice::Line(level, text))
@@ -136,46 +147,46 @@ fn choose_by_test<'h>(
     name: &'static str,
     test: Test,
 ) -> Result<Choice<'h>, RenderError>
-    ensures { Answers choice_of result (of_two strict name.now (helper_view helper.now) (test_of test)) }
+    ensures { Answers choice_view result (of_two strict name.now (helper_view helper.now) (test_of test)) }
 {
     let (left, right) = two_values(strict, helper, name)?;
-    Ok(Choice::Word(test.holds(left, right)))
+    Ok(Choice::Boolean(test.holds(left, right)))
 }
 
 fn choose_and<'h>(helper: &Helper) -> Result<Choice<'h>, RenderError>
-    ensures { Answers choice_of result (built_in_choice false kind_and (helper_view helper.now)) }
+    ensures { Answers choice_view result (built_in_choice false kind_and (helper_view helper.now)) }
 {
-    Ok(Choice::Word(all_true(helper.params())))
+    Ok(Choice::Boolean(all_true(helper.params())))
 }
 
 fn choose_or<'h>(helper: &Helper) -> Result<Choice<'h>, RenderError>
-    ensures { Answers choice_of result (built_in_choice false kind_or (helper_view helper.now)) }
+    ensures { Answers choice_view result (built_in_choice false kind_or (helper_view helper.now)) }
 {
-    Ok(Choice::Word(some_true(helper.params())))
+    Ok(Choice::Boolean(some_true(helper.params())))
 }
 
 fn choose_not<'h>(strict: bool, helper: &Helper) -> Result<Choice<'h>, RenderError>
-    ensures { Answers choice_of result (built_in_choice strict kind_not (helper_view helper.now)) }
+    ensures { Answers choice_view result (built_in_choice strict kind_not (helper_view helper.now)) }
 {
-    Ok(Choice::Word(negation(strict, helper)?))
+    Ok(Choice::Boolean(negation(strict, helper)?))
 }
 
 fn choose_len<'h>(alloc: Global, strict: bool, helper: &Helper) -> Result<Choice<'h>, RenderError>
-    ensures { Answers choice_of result (built_in_choice strict kind_len (helper_view helper.now)) }
+    ensures { Answers choice_view result (built_in_choice strict kind_len (helper_view helper.now)) }
 {
     Ok(Choice::Count(len(alloc, strict, helper)?))
 }
 
 // ---- `each`
 
-// The body for each member, where the call has a body and there are members.
+// The body for each member, if the call has a body and there are members.
 fn each_choice<'h>(
     alloc: Global,
     strict: bool,
     helper: &'h Helper,
     param: &'h PathAndJson<'h>,
 ) -> Result<Choice<'h>, RenderError>
-    ensures { Answers choice_of result (each_choice strict (helper_view helper.now) (path_and_data param.now)) }
+    ensures { Answers choice_view result (each_choice strict (helper_view helper.now) (path_and_data param.now)) }
 {
     if helper.template().is_none() {
         return Ok(Choice::Nothing);
@@ -190,14 +201,14 @@ fn each_choice<'h>(
     }
 }
 
-// The inverse, which strict mode asks for.
+// The inverse, which strict mode requires.
 fn inverse_or_refusal<'h>(
     alloc: Global,
     strict: bool,
     helper: &Helper,
     param: &PathAndJson,
 ) -> Result<Choice<'h>, RenderError>
-    ensures { Answers choice_of result
+    ensures { Answers choice_view result
         (inverse_or_refusal strict (helper_view helper.now) (path_and_data param.now)) }
 {
     if strict && helper.inverse().is_none() {
@@ -206,7 +217,7 @@ fn inverse_or_refusal<'h>(
     Ok(Choice::Inverse)
 }
 
-// The refusal of a value that is missing, by its text as written, where it has one.
+// The error for a missing value, with its text as written, if it has one.
 fn missing_variable(alloc: Global, path: Option<&String>) -> Result<RenderError, AllocError>
     ensures { IfOk result (λ e. refusal_of e
         ≡ plain_refusal (missing_variable (option_map (λ s. string_bytes s.now) path.entry))) }
@@ -219,8 +230,8 @@ fn missing_variable(alloc: Global, path: Option<&String>) -> Result<RenderError,
 }
 
 fn items_choice<'h>(path: Option<&'h Vec<String>>, items: &'h Vec<Json>) -> Choice<'h>
-    ensures { choice_of result
-        ≡ turns_or_inverse (path_view path.entry) (turns_of (array (items_view items.now.items))) }
+    ensures { choice_view result
+        ≡ iterations_or_inverse (path_view path.entry) (iterations_of (array (items_view items.now.items))) }
 {
     if items.is_empty() {
         Choice::Inverse
@@ -230,8 +241,8 @@ fn items_choice<'h>(path: Option<&'h Vec<String>>, items: &'h Vec<Json>) -> Choi
 }
 
 fn members_choice<'h>(path: Option<&'h Vec<String>>, members: &'h Map<String, Json>) -> Choice<'h>
-    ensures { choice_of result
-        ≡ turns_or_inverse (path_view path.entry) (turns_of (object (members_view members.now.entries))) }
+    ensures { choice_view result
+        ≡ iterations_or_inverse (path_view path.entry) (iterations_of (object (members_view members.now.entries))) }
 {
     if members.is_empty() {
         Choice::Inverse
@@ -248,7 +259,7 @@ fn with_choice<'h>(
     helper: &Helper,
     param: &'h PathAndJson<'h>,
 ) -> Result<Choice<'h>, RenderError>
-    ensures { Answers choice_of result (with_choice strict (helper_view helper.now) (path_and_data param.now)) }
+    ensures { Answers choice_view result (with_choice strict (helper_view helper.now) (path_and_data param.now)) }
 {
     if !param.value().is_truthy(false) {
         return inverse_or_refusal(alloc, strict, helper, param);
@@ -260,7 +271,7 @@ fn with_choice<'h>(
 }
 
 fn lookup_choice<'h>(strict: bool, value: &'h Json, key: &Json) -> Result<Choice<'h>, RenderError>
-    ensures { Answers choice_of result (lookup_choice strict (view value.now) (view key.now)) }
+    ensures { Answers choice_view result (lookup_choice strict (view value.now) (view key.now)) }
 {
     match looked_up(value, key) {
         Some(found) => Ok(Choice::Value(Some(found))),
@@ -269,7 +280,7 @@ fn lookup_choice<'h>(strict: bool, value: &'h Json, key: &Json) -> Result<Choice
     }
 }
 
-// The member of an object by a text, the item of an array by a whole number.
+// The member of an object under a string, or the item of an array at a whole number.
 fn looked_up<'h>(value: &'h Json, key: &Json) -> Option<&'h Json>
     ensures { option_map (λ v. view v.now) result ≡ looked_up (view value.now) (view key.now) }
 {
@@ -283,10 +294,10 @@ fn looked_up<'h>(value: &'h Json, key: &Json) -> Option<&'h Json>
     }
 }
 
-// ---- words and conditions
+// ---- booleans and conditions
 
 fn body_if(truth: bool) -> Choice<'static>
-    ensures { choice_of result ≡ body_if truth }
+    ensures { choice_view result ≡ body_if truth }
 {
     if truth { Choice::Body } else { Choice::Inverse }
 }

@@ -4,7 +4,7 @@ ghost use Rattle.std.specs.Prelude.{◌∷◌, []};
 ghost use Rattle.serde_json.specs.View.{view};
 ghost use Rattle.handlebars_base.specs.Answers.{Answers, gives};
 ghost use Rattle.handlebars_template.specs.TreeView.{tree_view};
-ghost use Rattle.handlebars_helpers.specs.Decoration.{by_body, by_text, inline_deeds, sets_partial};
+ghost use Rattle.handlebars_helpers.specs.Decoration.{by_body, by_text, inline_actions, sets_partial};
 ghost use Rattle.handlebars_helpers.specs.DecoratorsView.{tag_view};
 
 pub mod def;
@@ -19,46 +19,51 @@ use handlebars_scope::context::Context;
 use handlebars_template::template::Template;
 use view::Decorator;
 
-/// What stands under a name of decorators.
+/// What is registered under a decorator's name.
 #[derive(Clone, Copy, Debug, PartialEq, Eq)]
 pub enum DecoratorKind {
     /// `inline`.
     Inline,
-    /// A decorator of one's own, which is asked by that name.
+    /// A user-defined decorator, which is called by that name.
     Own,
 }
 
-/// A deed of a decorator.
+/// An action of a decorator.
 #[derive(Drop)]
 pub enum DecoratorStep {
-    /// The data of this context stands in the place of what was given from now on.
+    /// Replaces the data by that of this context, from now on.
     SetContext(Context),
-    /// Calls of the local name go to what is registered under another one, with the constants before
-    /// their parameters.
+    /// Binds the local name to what is registered under another one. The constants are passed before the
+    /// parameters of each call.
     BindHelper {
         local: String,
         registered: String,
         constants: Vec<Json>,
     },
-    /// The name has no local helper any more.
+    /// Removes the local helper of the name.
     UnbindHelper(String),
-    /// The body of the tag is a partial of the nearest block of scope under this name.
+    /// Makes the body of the tag a partial of the nearest scope frame, under this name.
     SetLocalPartial(String),
 }
 
-/// What a decorator answers for a tag: its deeds, which are done in order.
+/// What a decorator answers for a tag: its actions, which are executed in order.
 pub type DecoratorResult = Result<Vec<DecoratorStep>, RenderError>;
 
-/// The name of the partial that `inline` makes of the body of a tag.
+/// Returns the name of the partial that `inline` makes of the body of a tag.
+///
+/// # Errors
+///
+/// Fails with `ParamNotFoundForIndex` if the tag has no parameter, with `InvalidParamType` if the first one
+/// isn't a string, and with `BlockContentRequired` if the tag has no body, in this order.
 pub fn inline<'d>(decorator: &'d Decorator) -> Result<&'d str, RenderError>
-    ensures { Answers (λ name. sets_partial name.now ∷ []) result (inline_deeds (tag_view decorator.now)) }
+    ensures { Answers (λ name. sets_partial name.now ∷ []) result (inline_actions (tag_view decorator.now)) }
 {
     let name = text_of(there(decorator.param(0), "inline", 0)?.value())?;
     body_of(decorator)?;
     Ok(name)
 }
 
-// The text that a value is.
+// The text of a value that is a string. Fails with `InvalidParamType` for any other value.
 fn text_of(value: &Json) -> Result<&str, RenderError>
     ensures { Answers (λ t. t.now) result (by_text (view value.now) (λ t. gives t)) }
 {
@@ -70,7 +75,7 @@ fn text_of(value: &Json) -> Result<&str, RenderError>
     }
 }
 
-// The body of a tag.
+// The body of a tag. Fails with `BlockContentRequired` if there is none.
 fn body_of<'d>(decorator: &'d Decorator) -> Result<&'d Template, RenderError>
     ensures { Answers (λ t. tree_view t.now) result (by_body (tag_view decorator.now).body (λ t. gives t)) }
 {

@@ -1,4 +1,4 @@
-//! What is registered under names, and what is asked of it.
+//! What is registered under names, and the calls to it.
 
 ghost use Rattle.std.specs.Prelude.{◌≡◌, IfOk, option_map, string_bytes};
 ghost use Rattle.handlebars_base.specs.Answers.{IsRefusal};
@@ -7,12 +7,12 @@ ghost use Rattle.handlebars_base.specs.Reasons.{decorator_not_found, helper_not_
 ghost use Rattle.handlebars_base.specs.RenderRefusals.{plain_refusal};
 ghost use Rattle.handlebars_helpers.specs.Callee.{first_callee};
 ghost use Rattle.handlebars_helpers.specs.Decoration.{built_in_decorator};
-ghost use Rattle.handlebars_helpers.specs.DecoratorsView.{decorator_called, deeds_of, decorator_question_of};
-ghost use Rattle.handlebars_helpers.specs.EntriesView.{own_answers, registered_in};
+ghost use Rattle.handlebars_helpers.specs.DecoratorsView.{decorator_called, actions_view, decorator_question_of};
+ghost use Rattle.handlebars_helpers.specs.EntriesView.{user_answers, registered_in};
 ghost use Rattle.handlebars_helpers.specs.EscapeView.{escaping_of};
 ghost use Rattle.handlebars_helpers.specs.Escaping.{for_html};
-ghost use Rattle.handlebars_helpers.specs.OwnAnswers.{HaveOne, OwnAnswers, Registrations};
-ghost use Rattle.handlebars_helpers.specs.OwnView.{IsOneOf, helper_question_of, callee_of, offer_of, steps_of};
+ghost use Rattle.handlebars_helpers.specs.UserAnswers.{HaveOne, UserAnswers, Registrations};
+ghost use Rattle.handlebars_helpers.specs.UserView.{IsOneOf, helper_question_of, callee_of, offer_of, steps_of};
 
 use crate::by_name::ByName;
 use crate::decorators::def::DecoratorDef;
@@ -23,10 +23,10 @@ use crate::decorators::{DecoratorKind, DecoratorResult};
 use crate::escape::def::EscapeFn;
 use crate::escape::{EscapeKindOf, EscapePart, Escaping};
 use crate::first::{built_in_decorators, built_in_helpers};
-use crate::own::def::HelperDef;
-use crate::own::entry::{HelperEntryOf, HelperPart};
-use crate::own::function::FnHelper;
-use crate::own::{Callee, HelperResult, HelperValue};
+use crate::user::def::HelperDef;
+use crate::user::entry::{HelperEntryOf, HelperPart};
+use crate::user::function::FnHelper;
+use crate::user::{Callee, HelperResult, HelperValue};
 use crate::view::Helper;
 use handlebars_base::error::{RenderError, RenderErrorReason};
 use handlebars_base::support::escape_html;
@@ -42,7 +42,7 @@ pub struct Entries<B, F, D, G, X> {
     pub escape: EscapeKindOf<X>,
 }
 
-/// Entries whose parts of one's own are boxes.
+/// Entries whose user-defined parts are boxed.
 pub type BoxedEntries = Entries<
     Box<dyn HelperDef>,
     FnHelper,
@@ -51,7 +51,7 @@ pub type BoxedEntries = Entries<
     Box<dyn EscapeFn>,
 >;
 
-// The refusal of a name that no helper of one's own has.
+// The error for a name that no user-defined helper has.
 fn no_helper(alloc: Global, name: &str) -> RenderError
     ensures { IsRefusal (plain_refusal (helper_not_found name.now)) result }
 {
@@ -61,7 +61,7 @@ fn no_helper(alloc: Global, name: &str) -> RenderError
     }
 }
 
-// The refusal of a name that no decorator of one's own has.
+// The error for a name that no user-defined decorator has.
 fn no_decorator(alloc: Global, name: &str) -> RenderError
     ensures { IsRefusal (plain_refusal (decorator_not_found name.now)) result }
 {
@@ -71,34 +71,42 @@ fn no_decorator(alloc: Global, name: &str) -> RenderError
     }
 }
 
-/// What is registered, as it is asked for: the parts of one's own answer by their names.
-pub trait OwnParts: Drop {
-    // What stands under names, and the answers that there are.
+/// What is registered, as a rendering calls it. The user-defined parts are called by their names.
+pub trait UserParts: Drop {
+    // What is registered under names, and the answers that the user-defined parts have.
     ghost registered: { Self → Registrations };
 
-    ghost own: { Self → OwnAnswers };
+    ghost user: { Self → UserAnswers };
 
-    /// The built-in helpers and decorators, and nothing else; values are escaped for html.
+    /// Returns the built-in helpers and decorators, and nothing else. Values are escaped for html.
+    ///
+    /// # Errors
+    ///
+    /// Returns `AllocError` if memory runs out.
     fn first(alloc: Global) -> Result<Self, AllocError>
         ensures helpers { IfOk result (λ e. (name : Text) → (registered e).helper name ≡ first_callee name) }
         ensures decorators { IfOk result (λ e. (name : Text) → (registered e).decorator name ≡ built_in_decorator name) }
         ensures escape { IfOk result (λ e. (registered e).escape ≡ for_html) };
 
-    /// What stands under a name of helpers, if anything does.
+    /// Returns what is registered under a helper's name, if anything is.
     fn helper(&self, name: &str) -> Option<Callee>
         ensures { option_map (callee_of name.now) result ≡ (registered self.now).helper name.now };
 
-    /// The decorator under a name, if there is one.
+    /// Returns the decorator under a name, if there is one.
     fn decorator(&self, name: &str) -> Option<DecoratorKind>
         ensures { option_map (decorator_called name.now) result ≡ (registered self.now).decorator name.now };
 
-    /// How values are escaped.
+    /// Returns how values are escaped.
     fn escape(&self) -> Escaping
         ensures { escaping_of result ≡ (registered self.now).escape };
 
-    /// What the helper of one's own under a name answers when it is called: with the view of the call, the
-    /// data that was given, and what stands in its place, where it was changed. `HelperNotFound` where none
-    /// has the name.
+    /// Returns what the user-defined helper under a name answers when it is called with the view of the call,
+    /// the given data, the data that replaced it if it was changed, and whether the mode is strict.
+    ///
+    /// # Errors
+    ///
+    /// Fails with `HelperNotFound` if no user-defined helper has the name, otherwise with the error that the
+    /// helper answers.
     fn steps_of(
         &self,
         name: &str,
@@ -107,9 +115,14 @@ pub trait OwnParts: Drop {
         changed: Option<&Context>,
         strict: bool,
     ) -> HelperResult
-        ensures { IsOneOf (((own self.now).helper name.now).has_steps (helper_question_of h.now given.now changed.entry strict)) steps_of result };
+        ensures { IsOneOf (((user self.now).helper name.now).has_steps (helper_question_of h.now given.now changed.entry strict)) steps_of result };
 
-    /// What it offers when it is asked for a value.
+    /// Returns what the user-defined helper under a name offers when it is asked for a value.
+    ///
+    /// # Errors
+    ///
+    /// Fails with `HelperNotFound` if no user-defined helper has the name, otherwise with the error that the
+    /// helper answers.
     fn offer_of(
         &self,
         name: &str,
@@ -118,11 +131,15 @@ pub trait OwnParts: Drop {
         changed: Option<&Context>,
         strict: bool,
     ) -> Result<HelperValue, RenderError>
-        ensures { IsOneOf (((own self.now).helper name.now).has_offer (helper_question_of h.now given.now changed.entry strict)) offer_of result };
+        ensures { IsOneOf (((user self.now).helper name.now).has_offer (helper_question_of h.now given.now changed.entry strict)) offer_of result };
 
-    /// What the decorator of one's own under a name answers for a tag. `DecoratorNotFound` where none has
-    /// the name.
-    fn deeds_of(
+    /// Returns what the user-defined decorator under a name answers for a tag.
+    ///
+    /// # Errors
+    ///
+    /// Fails with `DecoratorNotFound` if no user-defined decorator has the name, otherwise with the error that
+    /// the decorator answers.
+    fn actions_of(
         &self,
         name: &str,
         d: &Decorator,
@@ -130,22 +147,22 @@ pub trait OwnParts: Drop {
         changed: Option<&Context>,
         strict: bool,
     ) -> DecoratorResult
-        ensures { IsOneOf ((own self.now).decorator name.now (decorator_question_of d.now given.now changed.entry strict)) deeds_of result };
+        ensures { IsOneOf ((user self.now).decorator name.now (decorator_question_of d.now given.now changed.entry strict)) actions_view result };
 
-    /// What is written in the place of a text.
+    /// Returns what is written in place of a text.
     fn escaped(&self, text: &str) -> Result<String, RenderError>
-        ensures { IsOneOf ((own self.now).escape text.now) string_bytes result };
+        ensures { IsOneOf ((user self.now).escape text.now) string_bytes result };
 
-    /// Nothing of one's own has two answers to one question.
-    fn keeps_law(&self)
-        ensures { HaveOne (own self.now) };
+    /// Guarantees that no user-defined helper, decorator or escape function has two answers to one question.
+    fn satisfies_law(&self)
+        ensures { HaveOne (user self.now) };
 }
 
-impl<B: HelperPart, F: HelperPart, D: DecoratorPart, G: DecoratorPart, X: EscapePart> OwnParts
+impl<B: HelperPart, F: HelperPart, D: DecoratorPart, G: DecoratorPart, X: EscapePart> UserParts
     for Entries<B, F, D, G, X> {
     ghost registered = { registered_in };
 
-    ghost own = { own_answers B.has_steps B.has_offer F.has_steps F.has_offer D.has_deeds G.has_deeds X.has_escaped };
+    ghost user = { user_answers B.has_steps B.has_offer F.has_steps F.has_offer D.has_actions G.has_actions X.has_escaped };
 
     fn first(alloc: Global) -> Result<Entries<B, F, D, G, X>, AllocError> {
         Ok(Entries {
@@ -211,7 +228,7 @@ impl<B: HelperPart, F: HelperPart, D: DecoratorPart, G: DecoratorPart, X: Escape
         }
     }
 
-    fn deeds_of(
+    fn actions_of(
         &self,
         name: &str,
         d: &Decorator,
@@ -220,8 +237,8 @@ impl<B: HelperPart, F: HelperPart, D: DecoratorPart, G: DecoratorPart, X: Escape
         strict: bool,
     ) -> DecoratorResult {
         match self.decorators.get(name) {
-            Some(DecoratorEntryOf::Own(def)) => def.deeds(d, given, changed, strict),
-            Some(DecoratorEntryOf::Function(f)) => f.deeds(d, given, changed, strict),
+            Some(DecoratorEntryOf::Own(def)) => def.actions(d, given, changed, strict),
+            Some(DecoratorEntryOf::Function(f)) => f.actions(d, given, changed, strict),
             Some(DecoratorEntryOf::Inline) => Err(no_decorator(self.alloc, name)),
             None => Err(no_decorator(self.alloc, name)),
         }
@@ -235,11 +252,11 @@ impl<B: HelperPart, F: HelperPart, D: DecoratorPart, G: DecoratorPart, X: Escape
         }
     }
 
-    fn keeps_law(&self) {
-        B::keeps_law(&None);
-        F::keeps_law(&None);
-        D::keeps_law(&None);
-        G::keeps_law(&None);
-        X::keeps_law(&None);
+    fn satisfies_law(&self) {
+        B::satisfies_law(&None);
+        F::satisfies_law(&None);
+        D::satisfies_law(&None);
+        G::satisfies_law(&None);
+        X::satisfies_law(&None);
     }
 }

@@ -4,29 +4,29 @@ ghost use Rattle.std.specs.Prelude.{◌≡◌, string_bytes};
 ghost use Rattle.handlebars_base.specs.Answers.{Answer};
 ghost use Rattle.handlebars_base.specs.Bytes.{Text};
 ghost use Rattle.handlebars_helpers.specs.EscapeView.{escaping_of, kind_escaping};
-ghost use Rattle.handlebars_helpers.specs.Own.{HasOne};
-ghost use Rattle.handlebars_helpers.specs.OwnView.{IsOneOf};
+ghost use Rattle.handlebars_helpers.specs.UserHelper.{HasOne};
+ghost use Rattle.handlebars_helpers.specs.UserView.{IsOneOf};
 
 pub mod def;
 
 use crate::escape::def::EscapeFn;
 use handlebars_base::error::RenderError;
 
-/// How the text of a value is escaped before it is written, where escape functions of one's own are kept as `X`.
+/// How the text of a value is escaped before it is written. User-defined escape functions are stored as `X`.
 #[derive(Drop)]
 pub enum EscapeKindOf<X> {
-    /// By the entities of html, as `escape_html` does.
+    /// With the entities of html, as `escape_html` does.
     Html,
     /// Not at all.
     Plain,
-    /// By an escape function of one's own.
+    /// With a user-defined escape function.
     Own(X),
 }
 
 /// How the text of a value is escaped before it is written.
 pub type EscapeKind = EscapeKindOf<Box<dyn EscapeFn>>;
 
-/// How texts are escaped: for html, not at all, or by an escape function of one's own, which is to be asked.
+/// How texts are escaped: for html, not at all, or by a user-defined escape function, which has to be called.
 #[derive(Clone, Copy, Debug, PartialEq, Eq)]
 pub enum Escaping {
     Html,
@@ -35,7 +35,7 @@ pub enum Escaping {
 }
 
 impl<X> EscapeKindOf<X> {
-    /// Which of them it is.
+    /// Returns which of them it is.
     pub fn escaping(&self) -> Escaping
         ensures { escaping_of result ≡ kind_escaping self.now }
     {
@@ -47,16 +47,16 @@ impl<X> EscapeKindOf<X> {
     }
 }
 
-/// An escape function of one's own, as it is kept and asked.
+/// A user-defined escape function, as it is stored and called.
 pub trait EscapePart: Drop {
     ghost has_escaped: { Self → Text → Answer Text → Type 0 };
 
-    /// What is written in the place of a text.
+    /// Returns what is written in place of a text.
     fn escaped(&self, text: &str) -> Result<String, RenderError>
         ensures { IsOneOf (has_escaped self.now text.now) string_bytes result };
 
-    /// No escape function that is kept so has two answers for one text.
-    fn keeps_law(_kept: &Option<Self>)
+    /// Guarantees that no escape function stored so has two answers for one text.
+    fn satisfies_law(_registered: &Option<Self>)
         ensures { (e : Self) (t : Text) → HasOne (has_escaped e t) };
 }
 
@@ -67,5 +67,5 @@ impl EscapePart for Box<dyn EscapeFn> {
         self.escape(text)
     }
 
-    fn keeps_law(_kept: &Option<Box<dyn EscapeFn>>) {}
+    fn satisfies_law(_registered: &Option<Box<dyn EscapeFn>>) {}
 }

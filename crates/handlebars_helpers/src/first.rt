@@ -7,15 +7,19 @@ ghost use Rattle.handlebars_helpers.specs.Callee.{built, first_callee};
 ghost use Rattle.handlebars_helpers.specs.Decoration.{built_in_decorator};
 ghost use Rattle.handlebars_helpers.specs.DecoratorEntryView.{decorators_of};
 ghost use Rattle.handlebars_helpers.specs.EntryView.{callees_of};
-ghost use Rattle.handlebars_helpers.specs.View.{kind_of};
+ghost use Rattle.handlebars_helpers.specs.View.{built_in_kind};
 
 use crate::built_in::{BuiltIn, table};
 use crate::by_name::ByName;
 use crate::decorators::entry::DecoratorEntryOf;
-use crate::own::entry::HelperEntryOf;
+use crate::user::entry::HelperEntryOf;
 use std::alloc::{AllocError, Global};
 
-/// The built-in helpers under their names.
+/// Returns the built-in helpers under their names.
+///
+/// # Errors
+///
+/// Returns `AllocError` if memory runs out.
 pub fn built_in_helpers<B: Drop, F: Drop>(
     alloc: Global,
 ) -> Result<ByName<HelperEntryOf<B, F>>, AllocError>
@@ -28,7 +32,7 @@ pub fn built_in_helpers<B: Drop, F: Drop>(
     Ok(helpers)
 }
 
-// Puts a built-in helper under a name, in place of one that stood there.
+// Inserts a built-in helper under a name, and replaces the one that was there.
 fn put<B: Drop, F: Drop>(
     alloc: Global,
     helpers: &mut ByName<HelperEntryOf<B, F>>,
@@ -36,12 +40,16 @@ fn put<B: Drop, F: Drop>(
     kind: BuiltIn,
 ) -> Result<(), AllocError>
     ensures { OnOk result ((other : Text) → callees_of helpers.new other
-        ≡ update bytes_eq (callees_of helpers.old) name.now (Some (built (kind_of kind))) other) }
+        ≡ update bytes_eq (callees_of helpers.old) name.now (Some (built (built_in_kind kind))) other) }
 {
     helpers.insert(String::from_str(alloc, name)?, HelperEntryOf::Built(kind))
 }
 
-/// The built-in decorators under their names.
+/// Returns the built-in decorators under their names.
+///
+/// # Errors
+///
+/// Returns `AllocError` if memory runs out.
 pub fn built_in_decorators<D: Drop, G: Drop>(
     alloc: Global,
 ) -> Result<ByName<DecoratorEntryOf<D, G>>, AllocError>

@@ -1,4 +1,4 @@
-//! The line that `log` gives to the logger.
+//! The line that `log` passes to the logger.
 
 ghost use Rattle.std.specs.Prelude.{◌≡◌, ◌++◌, IfOk, OnOk, map, string_bytes, true};
 ghost use Rattle.handlebars_base.specs.Answers.{Answers, IsRefusal};
@@ -15,9 +15,13 @@ use log::Level;
 use std::alloc::{AllocError, Global};
 use std::str::FromStr;
 
-/// The level and the text of the line that a call of `log` gives to the logger: its parameters, each
-/// behind its text as written, where it has one. The pair `level` names the level, in capitals or
-/// not; `info` where it is absent or no text. `InvalidLoggingLevel` of a text that names none.
+/// Returns the level and the text of the line that a call of `log` passes to the logger. The text is the
+/// parameters, each after its text as written, if it has one. The hash argument `level` names the level,
+/// ignoring ASCII case; it is `info` if the argument is absent or isn't a string.
+///
+/// # Errors
+///
+/// Fails with `InvalidLoggingLevel` if the string names no level, and with `OutOfMemory` if memory runs out.
 pub fn log_record(alloc: Global, helper: &Helper) -> Result<(Level, String), RenderError>
     ensures { Answers line_seen result (log_line (helper_view helper.now).call) }
 {
@@ -47,7 +51,7 @@ fn invalid_level(alloc: Global, text: &str) -> RenderError
     }
 }
 
-// The parameters, with a comma and a space between them.
+// The parameters, separated by a comma and a space.
 fn line_text(alloc: Global, params: &Vec<PathAndJson>) -> Result<String, AllocError>
     ensures { IfOk result (λ text. string_bytes text ≡ line_text true (map path_and_data params.now.items)) }
 {
@@ -63,7 +67,7 @@ fn line_text(alloc: Global, params: &Vec<PathAndJson>) -> Result<String, AllocEr
     Ok(line)
 }
 
-// A parameter, behind its text as written.
+// A parameter, after its text as written.
 fn push_labelled(alloc: Global, param: &PathAndJson, line: &mut String) -> Result<(), AllocError>
     ensures { OnOk result (string_bytes line.new ≡ string_bytes line.old ++ labelled (path_and_data param.now)) }
 {

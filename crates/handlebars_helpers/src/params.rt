@@ -1,4 +1,4 @@
-//! The parameters that helpers can't do without.
+//! The parameters that helpers require.
 
 ghost use Rattle.std.specs.Prelude.{◌≡◌, MatchResult, None, Some, option_map};
 ghost use Rattle.serde_json.specs.View.{view};
@@ -14,7 +14,8 @@ use crate::view::Helper;
 use handlebars_base::error::{RenderError, RenderErrorReason};
 use handlebars_base::json::value::{Json, PathAndJson};
 
-/// A parameter, counted from 0; `ParamNotFoundForIndex` where the call has none there.
+/// Returns a parameter of a call, counted from 0. Fails with `ParamNotFoundForIndex` if the call has no such
+/// parameter.
 pub(crate) fn parameter<'h>(
     helper: &'h Helper,
     name: &'static str,
@@ -28,7 +29,8 @@ pub(crate) fn parameter<'h>(
     there(helper.param(index), name, index)
 }
 
-/// The parameter of a helper or a decorator at an index; `ParamNotFoundForIndex` where there is none.
+/// Returns the parameter of a helper or a decorator at an index. Fails with `ParamNotFoundForIndex` if there is
+/// none.
 pub(crate) fn there<'h>(
     param: Option<&'h PathAndJson<'h>>,
     name: &'static str,
@@ -45,7 +47,8 @@ pub(crate) fn there<'h>(
     }
 }
 
-/// The value of a parameter. In strict mode one that is missing counts as not there.
+/// Returns the value of a parameter. Fails with `ParamNotFoundForIndex` if the call has no such parameter or,
+/// in strict mode, if its value is missing.
 pub(crate) fn parameter_value<'h>(
     strict: bool,
     helper: &'h Helper,
@@ -62,7 +65,7 @@ pub(crate) fn parameter_value<'h>(
     Ok(param.value())
 }
 
-/// The values of the first two parameters.
+/// Returns the values of the first two parameters. Fails as `parameter_value` does, for the first one first.
 pub(crate) fn two_values<'h>(
     strict: bool,
     helper: &'h Helper,

@@ -1,17 +1,18 @@
-//! Refusals of functions.
+//! Errors of functions that are helpers or decorators.
 
 ghost use Rattle.std.specs.Prelude.{◌≡◌};
 ghost use Rattle.handlebars_base.specs.Reasons.{out_of_memory};
 ghost use Rattle.handlebars_base.specs.RenderRefusals.{cause_of, plain_refusal, reason_of, refusal_of};
-ghost use Rattle.handlebars_helpers.specs.FnRefusals.{refused_for};
+ghost use Rattle.handlebars_helpers.specs.FnRefusals.{fn_reason};
 
 use handlebars_base::error::{RenderError, RenderErrorReason, TemplateError};
 use std::alloc::{AllocError, AllocFailed};
 use std::io;
 use std::string::FromUtf8Error;
 
-/// Why a function that stands for a helper or a decorator refuses: as the reason of `RenderErrorReason` of
-/// this name. The reasons that hold a `&'static str` are left out: none comes out of a call of a `dyn Fn`.
+/// The reason for which a function that is a helper or a decorator fails: that of `RenderErrorReason` with the
+/// same name. The reasons that hold a `&'static str` are left out, because a call of a `dyn Fn` cannot return
+/// one.
 #[derive(Drop)]
 pub enum FnRefusal {
     TemplateNotFound(String),
@@ -39,12 +40,12 @@ pub enum FnRefusal {
 }
 
 impl From<FnRefusal> for RenderError {
-    ghost from_gives = { λ r e. refusal_of e ≡ plain_refusal (refused_for r) };
+    ghost from_gives = { λ r e. refusal_of e ≡ plain_refusal (fn_reason r) };
 
     fn from(refusal: FnRefusal) -> RenderError
-        ensures refusal { refusal_of result ≡ plain_refusal (refused_for refusal) }
+        ensures refusal { refusal_of result ≡ plain_refusal (fn_reason refusal) }
 
-        // A cause that comes from outside is kept.
+        // A cause that comes from outside is preserved.
         ensures json { (cause : _) → refusal ≡ FnRefusal.SerdeError cause → cause_of result ≡ RenderErrorReason.SerdeError cause }
         ensures io { (cause : _) → refusal ≡ FnRefusal.IOError cause → cause_of result ≡ RenderErrorReason.IOError cause }
         ensures utf8 { (cause : _) → refusal ≡ FnRefusal.Utf8Error cause → cause_of result ≡ RenderErrorReason.Utf8Error cause }
@@ -54,14 +55,14 @@ impl From<FnRefusal> for RenderError {
 }
 
 fn reason(refusal: FnRefusal) -> RenderErrorReason
-    ensures reason { reason_of result ≡ refused_for refusal }
+    ensures reason { reason_of result ≡ fn_reason refusal }
     ensures json { (cause : _) → refusal ≡ FnRefusal.SerdeError cause → result ≡ RenderErrorReason.SerdeError cause }
     ensures io { (cause : _) → refusal ≡ FnRefusal.IOError cause → result ≡ RenderErrorReason.IOError cause }
     ensures utf8 { (cause : _) → refusal ≡ FnRefusal.Utf8Error cause → result ≡ RenderErrorReason.Utf8Error cause }
 {
     match refusal {
         FnRefusal::TemplateNotFound(name) => RenderErrorReason::TemplateNotFound(name),
-        // Want of memory isn't wrapped.
+        // Out of memory isn't wrapped.
         FnRefusal::TemplateError(cause) => cause.into(),
         FnRefusal::MissingVariable(path) => RenderErrorReason::MissingVariable(path),
         FnRefusal::PartialNotFound(name) => RenderErrorReason::PartialNotFound(name),
@@ -87,20 +88,20 @@ fn reason(refusal: FnRefusal) -> RenderErrorReason
 }
 
 impl From<AllocError> for FnRefusal {
-    ghost from_gives = { λ _ r. refused_for r ≡ out_of_memory };
+    ghost from_gives = { λ _ r. fn_reason r ≡ out_of_memory };
 
     fn from(_e: AllocError) -> FnRefusal
-        ensures { refused_for result ≡ out_of_memory }
+        ensures { fn_reason result ≡ out_of_memory }
     {
         FnRefusal::OutOfMemory
     }
 }
 
 impl<T: Drop> From<AllocFailed<T>> for FnRefusal {
-    ghost from_gives = { λ _ r. refused_for r ≡ out_of_memory };
+    ghost from_gives = { λ _ r. fn_reason r ≡ out_of_memory };
 
     fn from(_e: AllocFailed<T>) -> FnRefusal
-        ensures { refused_for result ≡ out_of_memory }
+        ensures { fn_reason result ≡ out_of_memory }
     {
         FnRefusal::OutOfMemory
     }

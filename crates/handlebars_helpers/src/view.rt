@@ -1,10 +1,10 @@
-//! What a call shows to the helper that it calls.
+//! What a call passes to the helper that it calls.
 
 ghost use Rattle.std.specs.Prelude.{◌≡◌, option_map, map};
 ghost use Rattle.std.specs.Cow.{cow_str_bytes};
 ghost use Rattle.handlebars_base.specs.PathAndData.{path_and_data};
 ghost use Rattle.handlebars_template.specs.TreeView.{tree_view, binding_view, body_of, binding_of, param_view};
-ghost use Rattle.handlebars_helpers.specs.CallView.{binds, both_names, bound_name, pair_at, param_at, single_name};
+ghost use Rattle.handlebars_helpers.specs.CallView.{has_block_params, both_names, bound_name, hash_at, param_at, single_name};
 ghost use Rattle.handlebars_helpers.specs.View.{helper_view};
 
 use handlebars_base::json::value::PathAndJson;
@@ -12,7 +12,7 @@ use handlebars_template::template::{BlockParam, Parameter, Template};
 use std::borrow::CowStr;
 use std::collections::BTreeMap;
 
-/// A call, as its helper sees it: the values of its parameters and pairs, and what a block has.
+/// A call, as its helper sees it: the values of its parameters and hash arguments, and what a block has.
 pub struct Helper<'rc> {
     name: CowStr<'rc>,
     params: Vec<PathAndJson<'rc>>,
@@ -23,7 +23,7 @@ pub struct Helper<'rc> {
     block: bool,
 }
 
-// By hand, so that whoever lets one go makes one call.
+// Not derived, so that every place that drops one makes a single call.
 impl Drop for Helper<'_> {
     fn drop(self) {
         let Helper {
@@ -39,7 +39,7 @@ impl Drop for Helper<'_> {
 }
 
 impl<'rc> Helper<'rc> {
-    /// A call of these parts.
+    /// Creates the view of a call of these parts.
     pub fn new(
         name: CowStr<'rc>,
         params: Vec<PathAndJson<'rc>>,
@@ -53,7 +53,7 @@ impl<'rc> Helper<'rc> {
           call = record {
             name = cow_str_bytes name.entry;
             params = map path_and_data params.entry.items;
-            pairs = map (λ e. (e.0.now, path_and_data e.1)) hash.entry.entries;
+            hash = map (λ e. (e.0.now, path_and_data e.1)) hash.entry.entries;
           };
           binding = binding_of (option_map (λ b. binding_view b.now) block_param.entry);
           body = body_of (option_map (λ t. tree_view t.now) template.entry);
@@ -72,77 +72,78 @@ impl<'rc> Helper<'rc> {
         }
     }
 
-    /// The name that it is called by.
+    /// Returns the name by which the helper is called.
     pub fn name(&self) -> &str
         ensures { result.now ≡ (helper_view self.now).call.name }
     {
         self.name.as_str()
     }
 
-    /// The values of its parameters, in order.
+    /// Returns the values of the parameters, in order.
     pub fn params(&self) -> &Vec<PathAndJson<'rc>>
         ensures { map path_and_data result.now.items ≡ (helper_view self.now).call.params }
     {
         &self.params
     }
 
-    /// The value of a parameter, counted from 0.
+    /// Returns the value of a parameter, counted from 0, or `None` if the call has no such parameter.
     pub fn param(&self, idx: usize) -> Option<&PathAndJson<'rc>>
         ensures { option_map (λ p. path_and_data p.now) result ≡ param_at idx (helper_view self.now).call }
     {
         self.params.get(idx)
     }
 
-    /// The values of its pairs, by key.
+    /// Returns the values of the hash arguments, by key.
     pub fn hash(&self) -> &BTreeMap<&'rc str, PathAndJson<'rc>>
-        ensures { map (λ e. (e.0.now, path_and_data e.1)) result.now.entries ≡ (helper_view self.now).call.pairs }
+        ensures { map (λ e. (e.0.now, path_and_data e.1)) result.now.entries ≡ (helper_view self.now).call.hash }
     {
         &self.hash
     }
 
-    /// The value of the pair with this key.
+    /// Returns the value of the hash argument with this key, or `None` if there is none.
     pub fn hash_get(&self, key: &str) -> Option<&PathAndJson<'rc>>
-        ensures { option_map (λ p. path_and_data p.now) result ≡ pair_at key.now (helper_view self.now).call }
+        ensures { option_map (λ p. path_and_data p.now) result ≡ hash_at key.now (helper_view self.now).call }
     {
         self.hash.get(key)
     }
 
-    /// The body of a block.
+    /// Returns the body of a block.
     pub fn template(&self) -> Option<&'rc Template>
         ensures { body_of (option_map (λ t. tree_view t.now) result) ≡ (helper_view self.now).body }
     {
         self.template
     }
 
-    /// What stands behind `else`.
+    /// Returns the inverse of a block, which is what follows `else`.
     pub fn inverse(&self) -> Option<&'rc Template>
         ensures { body_of (option_map (λ t. tree_view t.now) result) ≡ (helper_view self.now).inverse }
     {
         self.inverse
     }
 
-    /// Whether it is written as a block.
+    /// Returns whether the call is written as a block.
     pub fn is_block(&self) -> bool
         ensures { result ≡ (helper_view self.now).block }
     {
         self.block
     }
 
-    /// Whether names are given to bind. Of a tree by hand one that is no name binds nothing.
+    /// Returns whether the call has block parameters. In a hand-built template, one that is not a name binds
+    /// nothing.
     pub fn has_block_param(&self) -> bool
-        ensures { result ≡ binds (helper_view self.now).binding }
+        ensures { result ≡ has_block_params (helper_view self.now).binding }
     {
         self.block_param.is_some()
     }
 
-    /// The name that it binds, where it binds one alone.
+    /// Returns the name that the block binds, if it binds exactly one.
     pub fn block_param(&self) -> Option<&'rc str>
         ensures { option_map (λ name. name.now) result ≡ single_name (helper_view self.now).binding }
     {
         single_name(self.block_param)
     }
 
-    /// The two names that it binds, where it binds two.
+    /// Returns the two names that the block binds, if it binds two.
     pub fn block_param_pair(&self) -> Option<(&'rc str, &'rc str)>
         ensures { option_map (λ names. (names.0.now, names.1.now)) result ≡ both_names (helper_view self.now).binding }
     {
@@ -150,7 +151,7 @@ impl<'rc> Helper<'rc> {
     }
 }
 
-/// The name that is bound, where one is bound alone.
+/// Returns the name that is bound, if exactly one is.
 pub(crate) fn single_name<'t>(binding: Option<&'t BlockParam>) -> Option<&'t str>
     ensures { option_map (λ name. name.now) result
         ≡ single_name (binding_of (option_map (λ b. binding_view b.now) binding.entry)) }
@@ -162,7 +163,7 @@ pub(crate) fn single_name<'t>(binding: Option<&'t BlockParam>) -> Option<&'t str
     }
 }
 
-/// The names that are bound, where two are.
+/// Returns the names that are bound, if two are.
 pub(crate) fn both_names<'t>(binding: Option<&'t BlockParam>) -> Option<(&'t str, &'t str)>
     ensures { option_map (λ names. (names.0.now, names.1.now)) result
         ≡ both_names (binding_of (option_map (λ b. binding_view b.now) binding.entry)) }

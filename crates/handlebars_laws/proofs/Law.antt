@@ -1,64 +1,64 @@
 -- What a law says along a run, and that it holds of each run whose steps are as it says.
 use Rattle.std.proofs.Common.{◌≡◌, ℕ, ◌+◌, ◌≤◌, List, [], ◌++◌, subst, append_assoc, arith}
-use Rattle.handlebars_base.specs.Answers.{Answer, refuses}
+use Rattle.handlebars_base.specs.Answers.{Answer, fails}
 use Rattle.handlebars_base.specs.Reasons.{Refusal}
 use Rattle.handlebars_template.specs.Tree.{Element}
 use Rattle.handlebars_scope.specs.Scopes.{Frame}
-use Rattle.handlebars_meaning.specs.Inclusion.{partial_for}
-use Rattle.handlebars_meaning.specs.Means.{todo}
-use Rattle.handlebars_meaning.specs.Pieces.{Piece}
-use Rattle.handlebars_meaning.specs.Questions.{Reply, IsAnswered}
-use Rattle.handlebars_meaning.specs.Runs.{Outcome, Ended, Refused, Faulted, NoMemory, IsOver, mark_outcome, Front, Runs, done, refused, wrote, got, set, asked, did, did_over, captured, captured_over, looked, below_limit, at_limit, stop, cut}
-use Rattle.handlebars_meaning.specs.Sites.{Site}
-use Rattle.handlebars_meaning.specs.State.{Setting, State}
-use Rattle.handlebars_meaning.specs.Steps.{Task, Steps, Done, Refuse, Write, Get, Set, Ask, Do, Capture, Find, CheckLimit}
-use Rattle.handlebars_meaning.specs.Visits.{Visit, arrival, visits}
+use Rattle.handlebars_semantics.specs.Inclusion.{partial_for}
+use Rattle.handlebars_semantics.specs.Means.{todo}
+use Rattle.handlebars_semantics.specs.Pieces.{Piece}
+use Rattle.handlebars_semantics.specs.Questions.{Reply, IsAnswered}
+use Rattle.handlebars_semantics.specs.Runs.{Outcome, Ended, Failed, WriteFailed, NoMemory, IsOver, mark_outcome, Prefix, Runs, done, failed, wrote, got, set, asked, did, did_over, did_capture, did_capture_over, looked, below_limit, at_limit, stop, cut}
+use Rattle.handlebars_semantics.specs.Occurrences.{Occurrence}
+use Rattle.handlebars_semantics.specs.State.{Setting, State}
+use Rattle.handlebars_semantics.specs.Steps.{Task, Steps, Done, Fail, Write, Get, Set, Ask, Do, Capture, Find, CheckLimit}
+use Rattle.handlebars_semantics.specs.Visits.{Visit, arrival, visits}
 use Rattle.handlebars_laws.proofs.Outcomes.{in_memory_over, over_marked, stop_over}
 
 -- What a law says. The parts of a part have numbers, which grow in the order of the run; a law may use them or not.
 pub record Law : Type 1 where
-  -- of a state, of one behind another, and of a block of scope that is entered
+  -- of a state, of one after another, and of a scope frame that is entered
   pub IsWell : State → Type 0
   pub IsNext : State → State → Type 0
   pub MayEnter : Frame → Type 0
-  -- of an element to which the run comes in a state, and of a state in which steps of the element at a site go on
-  pub ComesTo : Site → Element → State → Type 0
-  pub Fits : Site → State → Type 0
+  -- of an element to which the run comes in a state, and of a state in which steps of the element at an occurrence go on
+  pub ComesTo : Occurrence → Element → State → Type 0
+  pub Fits : Occurrence → State → Type 0
   -- of a part that begins in a state, and of one that is the part of this number of another
   pub Begins : Task → State → Type 0
   pub IsPart : Task → ℕ → State → Task → Type 0
   -- of what is written
   pub MayWrite : List Piece → Type 0
-  -- of visits that are told ahead, and of those within parts of a part, from a number on and below another one
+  -- of visits that are known in advance, and of those within parts of a part, from a number on and below another one
   pub AreKnown : List Visit → Type 0
   pub AreIn : Task → ℕ → ℕ → List Visit → Type 0
 
 -- ---- steps
 
 module _ (p : Setting) (law : Law) (x : Task) where
-  -- These steps of the part x are as the law says, from a state and from a number of parts on; and where they are done, the
-  -- first argument holds of the number and the state to which they came. Where a question is refused, nothing follows.
-  abbrev pub Holds : (ℕ → State → Type 0) → ℕ → State → Steps → Type 0
-  Holds end n s Done = end n s
-  Holds end n s (Refuse r) = Unit {0}
-  Holds end n s (Write at_word ps k) = law.MayWrite ps × Holds end n s k
-  Holds end n s (Get f) = Holds end n s (f s)
-  Holds end n s (Set z k) = Holds end n z k
-  Holds end n s (Ask q f) =
-      ((r : Refusal) → f (refuses r) ≡ Refuse r) × ((a : Answer (Reply q)) → IsAnswered p s q a → Holds end n s (f a))
-  Holds end n s (Do t k) =
-      (m : ℕ) × (n ≤ m) × law.IsPart x m s t × ((z : State) → law.IsNext s z → Holds end (m + 1) z k)
-  Holds end n s (Capture m f) = Holds (λ j z. (ps : List Piece) → law.MayWrite ps → Holds end j z (f ps)) n s m
-  Holds end n s (Find name b f) = Holds end n s (f (partial_for p.parts s name b))
-  Holds end n s (CheckLimit k) = Holds end n s k
+  -- These steps of the part x are as the law says, from a state and from a number of parts on. Where they are done, the first
+  -- argument holds of the number and the state to which they came. If a question fails, nothing follows.
+  abbrev pub HoldsThrough : (ℕ → State → Type 0) → ℕ → State → Steps → Type 0
+  HoldsThrough end n s Done = end n s
+  HoldsThrough end n s (Fail r) = Unit {0}
+  HoldsThrough end n s (Write at_boolean_text ps k) = law.MayWrite ps × HoldsThrough end n s k
+  HoldsThrough end n s (Get f) = HoldsThrough end n s (f s)
+  HoldsThrough end n s (Set z k) = HoldsThrough end n z k
+  HoldsThrough end n s (Ask q f) =
+      ((r : Refusal) → f (fails r) ≡ Fail r) × ((a : Answer (Reply q)) → IsAnswered p s q a → HoldsThrough end n s (f a))
+  HoldsThrough end n s (Do t k) =
+      (m : ℕ) × (n ≤ m) × law.IsPart x m s t × ((z : State) → law.IsNext s z → HoldsThrough end (m + 1) z k)
+  HoldsThrough end n s (Capture m f) = HoldsThrough (λ j z. (ps : List Piece) → law.MayWrite ps → HoldsThrough end j z (f ps)) n s m
+  HoldsThrough end n s (Find name b f) = HoldsThrough end n s (f (partial_for p.parts s name b))
+  HoldsThrough end n s (CheckLimit k) = HoldsThrough end n s k
 
--- What a law has to keep, so that it holds of runs: a part of another begins, pieces and visits are joined, and pieces are
+-- What a law has to satisfy, so that it holds of runs: a part of another begins, pieces and visits are joined, and pieces are
 -- cut off where a run stops.
 pub record IsSound (law : Law) : Type 0 where
   pub part_begins : {x t : Task} {m : ℕ} {s : State} → law.IsPart x m s t → law.Begins t s
   pub none_written : law.MayWrite []
   pub join_written : (xs ys : List Piece) → law.MayWrite xs → law.MayWrite ys → law.MayWrite (xs ++ ys)
-  pub front_written : {xs ys : List Piece} → Front xs ys → law.MayWrite ys → law.MayWrite xs
+  pub prefix_written : {xs ys : List Piece} → Prefix xs ys → law.MayWrite ys → law.MayWrite xs
   pub first_known : (xs ys : List Visit) → law.AreKnown (xs ++ ys) → law.AreKnown xs
   pub later_known : (xs ys : List Visit) → law.AreKnown (xs ++ ys) → law.AreKnown ys
   pub none_in : (x : Task) (n : ℕ) → law.AreIn x n n []
@@ -71,18 +71,18 @@ pub record IsSound (law : Law) : Type 0 where
 
 abbrev pub EndsIn : (State → Type 0) → Outcome → Type 0
 EndsIn end (Ended s) = end s
-EndsIn end (Refused r) = Unit {0}
-EndsIn end (Faulted f) = Unit {0}
+EndsIn end (Failed r) = Unit {0}
+EndsIn end (WriteFailed f) = Unit {0}
 EndsIn end NoMemory = Unit {0}
 
 EndsIn-over : (end : State → Type 0) (o : Outcome) → IsOver o → EndsIn end o
 EndsIn-over end (Ended s) over = absurd over
-EndsIn-over end (Refused r) over = tt
-EndsIn-over end (Faulted f) over = tt
+EndsIn-over end (Failed r) over = tt
+EndsIn-over end (WriteFailed f) over = tt
 EndsIn-over end NoMemory over = tt
 
--- What holds of a run of steps of the part x, from a number of parts on: it came to some number, what it wrote and visited
--- is as the law says, and where it ended well, what is asked of its end holds.
+-- What holds of a run of steps of the part x, from a number of parts on: it came to some number, what it wrote and visited is
+-- as the law says, and if it ended well, what is required of its end holds.
 pub record Obeys (law : Law) (x : Task) (end : ℕ → State → Type 0) (n : ℕ) (ps : List Piece) (o : Outcome) (vs : List Visit)
     : Type 0 where
   pub to : ℕ
@@ -94,7 +94,7 @@ pub record Obeys (law : Law) (x : Task) (end : ℕ → State → Type 0) (n : �
 -- The steps of each part that begins are as the law says, and end in a state next to the one before.
 abbrev pub PlanHolds : Setting → Law → Type 0
 PlanHolds p law = (t : Task) (s : State) → law.Begins t s → law.AreKnown (arrival t s)
-    → Holds p law t (λ n z. law.IsNext s z) 0 s (todo t)
+    → HoldsThrough p law t (λ n z. law.IsNext s z) 0 s (todo t)
 
 module _ (p : Setting) (law : Law) (sound : IsSound law) (plan : PlanHolds p law) where
   Obeys-none : (x : Task) (end : ℕ → State → Type 0) (n : ℕ) (o : Outcome) → EndsIn (end n) o
@@ -103,10 +103,10 @@ module _ (p : Setting) (law : Law) (sound : IsSound law) (plan : PlanHolds p law
       record { to = n; le = omega arith; written = sound.none_written; ends = ends; are_in = sound.none_in x n }
 
   pub Runs-obeys : {k : Steps} {s : State} {ps : List Piece} {o : Outcome} (r : Runs p k s ps o) (x : Task)
-      (end : ℕ → State → Type 0) (n : ℕ) → Holds p law x end n s k → law.AreKnown (visits r)
+      (end : ℕ → State → Type 0) (n : ℕ) → HoldsThrough p law x end n s k → law.AreKnown (visits r)
       → Obeys law x end n ps o (visits r)
   Runs-obeys done x end n h known = Obeys-none x end n _ h
-  Runs-obeys refused x end n h known = Obeys-none x end n _ tt
+  Runs-obeys failed x end n h known = Obeys-none x end n _ tt
   Runs-obeys (wrote {xs = xs} {ps = ps} r) x end n h known =
       let rest = Runs-obeys r x end n h.1 known in record {
         to = rest.to;
@@ -120,10 +120,10 @@ module _ (p : Setting) (law : Law) (sound : IsSound law) (plan : PlanHolds p law
   Runs-obeys (asked a i r) x end n h known = Runs-obeys r x end n (h.1 a i) known
   Runs-obeys (did {s = s} {next = z} {t = t} {ps = ps} {qs = qs} a b) x end n h known =
       let arrives = sound.first_known (arrival t s) (visits a ++ visits b) known in
-      let behind = sound.later_known (arrival t s) (visits a ++ visits b) known in
+      let after = sound.later_known (arrival t s) (visits a ++ visits b) known in
       let part = Runs-obeys a t (λ j y. law.IsNext s y) 0 (plan t s (sound.part_begins h.2) arrives)
-      (sound.first_known (visits a) (visits b) behind) in
-      let rest = Runs-obeys b x end (h.0 + 1) (h.3 z part.ends) (sound.later_known (visits a) (visits b) behind) in
+      (sound.first_known (visits a) (visits b) after) in
+      let rest = Runs-obeys b x end (h.0 + 1) (h.3 z part.ends) (sound.later_known (visits a) (visits b) after) in
       let m : ℕ = h.0 in
       let le : n ≤ m = h.1 in
       let far : m + 1 ≤ rest.to = rest.le in
@@ -149,8 +149,8 @@ module _ (p : Setting) (law : Law) (sound : IsSound law) (plan : PlanHolds p law
         ends = EndsIn-over (end (m + 1)) (mark_outcome t o) (over_marked t o over);
         are_in = sound.part_in x t n m part.to s (visits a) le h.2 part.are_in;
       }
-  Runs-obeys (captured {next = z} {f = f} {ps = ps} a b) x end n h known =
-      let first = Runs-obeys a x (λ j y. (ws : List Piece) → law.MayWrite ws → Holds p law x end j y (f ws)) n h
+  Runs-obeys (did_capture {next = z} {f = f} {ps = ps} a b) x end n h known =
+      let first = Runs-obeys a x (λ j y. (ws : List Piece) → law.MayWrite ws → HoldsThrough p law x end j y (f ws)) n h
       (sound.first_known (visits a) (visits b) known) in
       let rest = Runs-obeys b x end first.to (first.ends ps first.written)
       (sound.later_known (visits a) (visits b) known) in
@@ -163,8 +163,8 @@ module _ (p : Setting) (law : Law) (sound : IsSound law) (plan : PlanHolds p law
         ends = rest.ends;
         are_in = sound.join_in x n first.to rest.to (visits a) (visits b) le far first.are_in rest.are_in;
       }
-  Runs-obeys (captured_over {f = f} {o = o} a over) x end n h known =
-      let first = Runs-obeys a x (λ j y. (ws : List Piece) → law.MayWrite ws → Holds p law x end j y (f ws)) n h known in
+  Runs-obeys (did_capture_over {f = f} {o = o} a over) x end n h known =
+      let first = Runs-obeys a x (λ j y. (ws : List Piece) → law.MayWrite ws → HoldsThrough p law x end j y (f ws)) n h known in
       record {
         to = first.to;
         le = first.le;
@@ -176,10 +176,10 @@ module _ (p : Setting) (law : Law) (sound : IsSound law) (plan : PlanHolds p law
   Runs-obeys (below_limit lt r) x end n h known = Runs-obeys r x end n h known
   Runs-obeys (at_limit le) x end n h known = Obeys-none x end n _ tt
   Runs-obeys stop x end n h known = Obeys-none x end n _ tt
-  Runs-obeys (cut {at_word = w} {o = o} i f) x end n h known = record {
+  Runs-obeys (cut {at_boolean_text = w} {o = o} i f) x end n h known = record {
     to = n;
     le = omega arith;
-    written = sound.front_written f h.0;
+    written = sound.prefix_written f h.0;
     ends = EndsIn-over (end n) o (stop_over w o i);
     are_in = sound.none_in x n;
   }

@@ -1,27 +1,27 @@
--- A tree's run that ends well leaves what stands around it as it was.
+-- A tree's run that ends well preserves what surrounds it.
 use Rattle.std.proofs.Common.{◌≡◌, ℕ, zero, suc, List, [], ◌∷◌, length, refl, ap, ◌∙◌, Option, arith}
 use Rattle.handlebars_base.specs.Bytes.{Text}
 use Rattle.handlebars_scope.specs.Scopes.{Frame}
-use Rattle.handlebars_helpers.specs.Turns.{turn_frame}
-use Rattle.handlebars_meaning.specs.Inclusion.{begin_inclusion, end_inclusion}
-use Rattle.handlebars_meaning.specs.Laws.{Around, around, LeavesAround}
-use Rattle.handlebars_meaning.specs.Pieces.{Piece}
-use Rattle.handlebars_meaning.specs.Sites.{first_tree}
-use Rattle.handlebars_meaning.specs.State.{Setting, State, push_frame, pop_frame, outer_frames, nearest_as, with_nearest, with_partial}
-use Rattle.handlebars_meaning.specs.Steps.{Whole}
-use Rattle.handlebars_laws.proofs.Closed.{MayKeep-any, Closed}
+use Rattle.handlebars_helpers.specs.Iterations.{iteration_frame}
+use Rattle.handlebars_semantics.specs.Inclusion.{begin_inclusion, end_inclusion}
+use Rattle.handlebars_semantics.specs.Laws.{PreservedPart, preserved_part, LeavesAround}
+use Rattle.handlebars_semantics.specs.Pieces.{Piece}
+use Rattle.handlebars_semantics.specs.Occurrences.{first_tree}
+use Rattle.handlebars_semantics.specs.State.{Setting, State, push_frame, pop_frame, outer_frames, nearest_as, with_nearest, with_partial}
+use Rattle.handlebars_semantics.specs.Steps.{Whole}
+use Rattle.handlebars_laws.proofs.Closed.{MayCapture-any, Closed}
 use Rattle.handlebars_laws.proofs.Law.{Law, IsSound, Runs-obeys}
 use Rattle.handlebars_laws.proofs.Walk.{todo-holds}
 
--- ---- the law: of a state behind another alone
+-- ---- the law: of a state after another alone
 
 abbrev pub leaves_it : Law
 leaves_it = record {
   IsWell = λ s. Unit {0};
-  IsNext = λ s n. around n ≡ around s;
+  IsNext = λ s n. preserved_part n ≡ preserved_part s;
   MayEnter = λ f. Unit {0};
-  ComesTo = λ site e s. Unit {0};
-  Fits = λ site s. Unit {0};
+  ComesTo = λ occurrence e s. Unit {0};
+  Fits = λ occurrence s. Unit {0};
   Begins = λ t s. Unit {0};
   IsPart = λ x m s t. Unit {0};
   MayWrite = λ ps. Unit {0};
@@ -34,7 +34,7 @@ leaves_it-sound = record {
   part_begins = λ h. tt;
   none_written = tt;
   join_written = λ xs ys a b. tt;
-  front_written = λ f h. tt;
+  prefix_written = λ f h. tt;
   first_known = λ xs ys h. tt;
   later_known = λ xs ys h. tt;
   none_in = λ x n. tt;
@@ -42,7 +42,7 @@ leaves_it-sound = record {
   join_in = λ x n m i xs ys le far a b. tt;
 }
 
--- ---- blocks of scope
+-- ---- scope frames
 
 less_one : ℕ → ℕ
 less_one zero = zero
@@ -57,29 +57,29 @@ length-nearest_as : (change : Frame → Frame) (fs : List Frame) → length (nea
 length-nearest_as change [] = refl
 length-nearest_as change (f ∷ fs) = refl
 
-abbrev with_blocks : Around → ℕ → Around
+abbrev with_blocks : PreservedPart → ℕ → PreservedPart
 with_blocks a n = record a { blocks = n }
 
-around-pop_frame : (s n : State) (f : Frame) → around n ≡ around (push_frame f s) → around (pop_frame n) ≡ around s
+preserved_part-pop_frame : (s n : State) (f : Frame) → preserved_part n ≡ preserved_part (push_frame f s) → preserved_part (pop_frame n) ≡ preserved_part s
 unfolding less_one
-around-pop_frame s n f is =
-    ap (with_blocks (around n)) (length-outer_frames n.blocks)
-    ∙ ap (λ (a : Around). with_blocks a (less_one a.blocks)) is
+preserved_part-pop_frame s n f is =
+    ap (with_blocks (preserved_part n)) (length-outer_frames n.blocks)
+    ∙ ap (λ (a : PreservedPart). with_blocks a (less_one a.blocks)) is
 
-around-with_nearest : (change : Frame → Frame) (s : State) → around (with_nearest change s) ≡ around s
-around-with_nearest change s = ap (with_blocks (around s)) (length-nearest_as change s.blocks)
+preserved_part-with_nearest : (change : Frame → Frame) (s : State) → preserved_part (with_nearest change s) ≡ preserved_part s
+preserved_part-with_nearest change s = ap (with_blocks (preserved_part s)) (length-nearest_as change s.blocks)
 
--- what stands around a state behind an inclusion, by what stood around in it
-abbrev back_in : State → Around → Around
-back_in s a = record a { blocks = less_one a.blocks; indent = s.indent; kept = s.kept; inclusions = s.inclusions }
+-- what surrounds a state after an inclusion, by what surrounded it within the inclusion
+abbrev back_in : State → PreservedPart → PreservedPart
+back_in s a = record a { blocks = less_one a.blocks; indent = s.indent; captured = s.captured; inclusions = s.inclusions }
 
-around-end_inclusion : (s n z : State) (f : Frame) (indent : Option Text) (k : Option (List Piece))
-    → around n ≡ around (push_frame f s) → around z ≡ around (begin_inclusion indent k n) → around (end_inclusion s z) ≡ around s
+preserved_part-end_inclusion : (s n z : State) (f : Frame) (indent : Option Text) (k : Option (List Piece))
+    → preserved_part n ≡ preserved_part (push_frame f s) → preserved_part z ≡ preserved_part (begin_inclusion indent k n) → preserved_part (end_inclusion s z) ≡ preserved_part s
 unfolding less_one
-around-end_inclusion s n z f indent k first last =
-    ap (with_blocks (around (end_inclusion s z))) (length-outer_frames z.blocks) ∙ ap (back_in s) last ∙ ap (back_in s) first
+preserved_part-end_inclusion s n z f indent k first last =
+    ap (with_blocks (preserved_part (end_inclusion s z))) (length-outer_frames z.blocks) ∙ ap (back_in s) last ∙ ap (back_in s) first
 
--- ---- all that templates do leaves it
+-- ---- all that templates do preserves it
 
 pub leaves_it-closed : (p : Setting) → Closed p leaves_it
 leaves_it-closed p = record {
@@ -92,27 +92,27 @@ leaves_it-closed p = record {
   data_next = λ d h. refl;
   local_next = λ name l h. refl;
   no_local_next = λ name h. refl;
-  turn_next = λ {s = s} path b t h. around-with_nearest (turn_frame path b t) s;
-  partial_next = λ {s = s} {name = name} {x = x} tagged sets h. around-with_nearest (with_partial name x) s;
+  iteration_next = λ {s = s} path b t h. preserved_part-with_nearest (iteration_frame path b t) s;
+  partial_next = λ {s = s} {name = name} {x = x} tagged sets h. preserved_part-with_nearest (with_partial name x) s;
   block_well = λ may h. tt;
   block_fits = λ h. tt;
-  block_next = λ {s = s} {n = n} {f = f} is. around-pop_frame s n f is;
+  block_next = λ {s = s} {n = n} {f = f} is. preserved_part-pop_frame s n f is;
   empty_enters = tt;
   with_enters = λ base b variables. tt;
   inclusion_enters = λ d hs variables. tt;
-  handed_enters = λ i called chooses is. tt;
+  passed_enters = λ i called chooses is. tt;
   raw_well = λ h. tt;
   raw_comes = λ h. tt;
-  raw_next = λ {s = s} is. ap (λ (a : Around). record a { escapes = s.escapes }) is;
-  own_next = λ {s = s} h is. ap (λ (a : Around). record a { indent = s.indent }) is;
-  newest_keeps = λ h. MayKeep-any _;
+  raw_next = λ {s = s} is. ap (λ (a : PreservedPart). record a { escapes = s.escapes }) is;
+  own_next = λ {s = s} h is. ap (λ (a : PreservedPart). record a { indent = s.indent }) is;
+  newest_captured = λ h. MayCapture-any _;
   begun_well = λ h may. tt;
-  over_next = λ {s = s} {n = n} {z = z} {f = f} {i = i} {k = k} h first last. around-end_inclusion s n z f i k first last;
+  over_next = λ {s = s} {n = n} {z = z} {f = f} {i = i} {k = k} h first last. preserved_part-end_inclusion s n z f i k first last;
   begins_well = λ h. tt;
   begins_comes = λ h known. tt;
   begins_fits = λ h is. tt;
   begins_raw = λ h. tt;
-  element_part = λ i h is behind. tt;
+  element_part = λ i h is after. tt;
   body_part = λ i comes call is fits h. tt;
   inverse_part = λ i comes is fits h. tt;
   block_part = λ tagged alone is fits h. tt;
@@ -122,10 +122,10 @@ leaves_it-closed p = record {
   text_written = λ comes fits h. tt;
   value_written = λ t called has fits is shows h. tt;
   raw_written = λ called has fits is h. tt;
-  word_written = λ b called says. tt;
+  boolean_text_written = λ b called says. tt;
   step_written = λ i t called answers is. tt;
 }
 
 pub leaves_around : (p : Setting) → LeavesAround p
 leaves_around p t s n ps r = (Runs-obeys p leaves_it leaves_it-sound (todo-holds p leaves_it (leaves_it-closed p)) r
-    (Whole first_tree t) (λ j z. around z ≡ around s) 0 (0, omega arith, tt, λ z is. is) tt).ends
+    (Whole first_tree t) (λ j z. preserved_part z ≡ preserved_part s) 0 (0, omega arith, tt, λ z is. is) tt).ends

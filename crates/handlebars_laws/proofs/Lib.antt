@@ -20,7 +20,7 @@ pub mod OriginPieces
 pub mod RunStates
 pub mod RunOrigins
 pub mod CompiledTrees
-pub mod OwnSteps
+pub mod UserSteps
 pub mod CompiledRuns
 pub mod MarkedPieces
 pub mod Renamed

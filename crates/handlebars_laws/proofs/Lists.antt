@@ -33,10 +33,11 @@ module _ {X : Type 0} where
   pub slice_get-has : (xs : List X) (i : ℕ) (x : X) → slice_get xs i ≡ Some x → Contains xs x
   slice_get-has xs i x is = (i, slice_get_within xs i x is, get_or_from_slice_get xs i x x is)
 
-  pub Contains-front : (x : X) (xs : List X) → Contains (x ∷ xs) x
-  Contains-front x xs = (0, omega arith, refl)
+  pub Contains-prefix : (x : X) (xs : List X) → Contains (x ∷ xs) x
+  Contains-prefix x xs = (0, omega arith, refl)
 
-  -- Two lists are joined to one: the first of the two goes past the front of the other, or does not.
+  -- If two joins give the same list, the first list of one is a prefix of the first list of the other, or the other way
+  -- round.
   pub append-cases : (a b c d : List X) → a ++ b ≡ c ++ d
       → ((m : List X) × (a ≡ c ++ m) × (m ++ b ≡ d)) ⊎ ((m : List X) × (c ≡ a ++ m) × (b ≡ m ++ d))
   append-cases [] b c d e = inr (c, refl, e)

@@ -1,40 +1,40 @@
--- A tree's run comes to no site twice: sites are numbered in the order of the run.
+-- A tree's run comes to no occurrence twice: occurrences are numbered in the order of the run.
 use Rattle.std.proofs.Common.{◌≡◌, ◌≢◌, ℕ, ◌+◌, ◌≤◌, ◌<◌, List, [], ◌∷◌, ◌++◌, refl, sym, ap, ◌∙◌, subst, append_assoc, append-nil, arith}
 use Rattle.std.specs.List.{AllByRecursion}
 use Rattle.std.proofs.lemmas.List.{append_cancel_left}
 use Rattle.handlebars_template.specs.Tree.{Tree}
-use Rattle.handlebars_meaning.specs.Means.{todo}
-use Rattle.handlebars_meaning.specs.Pieces.{Piece}
-use Rattle.handlebars_meaning.specs.Runs.{Outcome, Runs, done, did, did_over, stop, Means}
-use Rattle.handlebars_meaning.specs.Sites.{number_of, TreeSite, first_tree, body_at, inverse_at, included_at, Site, element_in}
-use Rattle.handlebars_meaning.specs.State.{Setting, State}
-use Rattle.handlebars_meaning.specs.Steps.{Task, One, Whole}
-use Rattle.handlebars_meaning.specs.Visits.{Visit, arrival, visits, ComeOnce}
-use Rattle.handlebars_laws.proofs.Closed.{MayKeep-any, Closed}
+use Rattle.handlebars_semantics.specs.Means.{todo}
+use Rattle.handlebars_semantics.specs.Pieces.{Piece}
+use Rattle.handlebars_semantics.specs.Runs.{Outcome, Runs, done, did, did_over, stop, Means}
+use Rattle.handlebars_semantics.specs.Occurrences.{ordinal_of, TreeOccurrence, first_tree, body_at, inverse_at, included_at, Occurrence, element_in}
+use Rattle.handlebars_semantics.specs.State.{Setting, State}
+use Rattle.handlebars_semantics.specs.Steps.{Task, One, Whole}
+use Rattle.handlebars_semantics.specs.Visits.{Visit, arrival, visits, ComeOnce}
+use Rattle.handlebars_laws.proofs.Closed.{MayCapture-any, Closed}
 use Rattle.handlebars_laws.proofs.Law.{Law, IsSound, Runs-obeys}
 use Rattle.handlebars_laws.proofs.Lists.{All-weaker, All-append}
 use Rattle.handlebars_laws.proofs.Walk.{todo-holds}
 
 -- ---- addresses
 
--- the numbers on the way to a site
+-- the numbers on the way to an occurrence
 abbrev mutual
-  tree_address : TreeSite → List ℕ
+  tree_address : TreeOccurrence → List ℕ
   tree_address first_tree = []
-  tree_address (body_at site time) = address site ++ (number_of time ∷ [])
-  tree_address (inverse_at site i) = address site ++ (i ∷ [])
-  tree_address (included_at site t) = address site ++ (1 ∷ [])
+  tree_address (body_at occurrence time) = address occurrence ++ (ordinal_of time ∷ [])
+  tree_address (inverse_at occurrence i) = address occurrence ++ (i ∷ [])
+  tree_address (included_at occurrence t) = address occurrence ++ (1 ∷ [])
 
-  address : Site → List ℕ
-  address (element_in at i place) = tree_address at ++ (i ∷ [])
+  address : Occurrence → List ℕ
+  address (element_in at i position) = tree_address at ++ (i ∷ [])
 
 abbrev task_address : Task → List ℕ
-task_address (One site e) = address site
+task_address (One occurrence e) = address occurrence
 task_address (Whole at t) = tree_address at
 
--- a site within the part of this number; and within one of a number from n on and below m
+-- an occurrence is within the part of this number; or within the part of a number from n on and below m
 IsIn : List ℕ → ℕ → Visit → Type 0
-IsIn pre n v = (rest : List ℕ) × (address v.site ≡ pre ++ (n ∷ rest))
+IsIn pre n v = (rest : List ℕ) × (address v.occurrence ≡ pre ++ (n ∷ rest))
 
 IsBetween : List ℕ → ℕ → ℕ → Visit → Type 0
 IsBetween pre n m v = (j : ℕ) × (n ≤ j) × (j < m) × IsIn pre j v
@@ -43,7 +43,7 @@ number_in : List ℕ → ℕ
 number_in [] = 0
 number_in (n ∷ ns) = n
 
-not-both : (pre : List ℕ) (n m i : ℕ) (v w : Visit) → IsBetween pre n m v → IsBetween pre m i w → w.site ≢ v.site
+not-both : (pre : List ℕ) (n m i : ℕ) (v w : Visit) → IsBetween pre n m v → IsBetween pre m i w → w.occurrence ≢ v.occurrence
 unfolding IsIn IsBetween number_in
 not-both pre n m i v w a b same =
     let below : a.0 < m = a.2 in
@@ -52,7 +52,7 @@ not-both pre n m i v w a b same =
     (sym b.3.1 ∙ ap address same ∙ a.3.1)) in
     omega (arith, below, from, is)
 
-not-within : (pre : List ℕ) (n m : ℕ) (v w : Visit) → address v.site ≡ pre → IsBetween pre n m w → w.site ≢ v.site
+not-within : (pre : List ℕ) (n m : ℕ) (v w : Visit) → address v.occurrence ≡ pre → IsBetween pre n m w → w.occurrence ≢ v.occurrence
 unfolding IsIn IsBetween
 not-within pre n m v w is b same = absurd (some≢none
     (append_cancel_left pre (b.0 ∷ b.3.0) [] (sym b.3.1 ∙ ap address same ∙ is ∙ sym (append-nil pre))))
@@ -62,9 +62,9 @@ not-within pre n m v w is b same = absurd (some≢none
 
 -- ---- lists of visits
 
--- none of the second is at a site of the first
+-- none of the second is at an occurrence of the first
 abbrev AreApart : List Visit → List Visit → Type 0
-AreApart xs ys = AllByRecursion (λ x. AllByRecursion (λ y. y.site ≢ x.site) ys) xs
+AreApart xs ys = AllByRecursion (λ x. AllByRecursion (λ y. y.occurrence ≢ x.occurrence) ys) xs
 
 ComeOnce-append : (xs ys : List Visit) → ComeOnce xs → ComeOnce ys → AreApart xs ys → ComeOnce (xs ++ ys)
 ComeOnce-append [] ys a b apart = b
@@ -104,22 +104,22 @@ ComeBetween-part : (x t : Task) (n m i : ℕ) (s : State) (vs : List Visit) → 
     → task_address t ≡ task_address x ++ (m ∷ []) → ComeBetween (task_address t) 0 i vs
     → ComeBetween (task_address x) n (m + 1) (arrival t s ++ vs)
 unfolding IsIn IsBetween
-ComeBetween-part x (One site e) n m i s vs le is h = (
-  ((m, le, omega arith, ([], is)), IsBetween-part (task_address x) n m i (address site) vs le is h.0),
-  (All-weaker vs (λ w a. not-within (address site) 0 i (record { site = site; state = s }) w refl a) h.0, h.1),
+ComeBetween-part x (One occurrence e) n m i s vs le is h = (
+  ((m, le, omega arith, ([], is)), IsBetween-part (task_address x) n m i (address occurrence) vs le is h.0),
+  (All-weaker vs (λ w a. not-within (address occurrence) 0 i (record { occurrence = occurrence; state = s }) w refl a) h.0, h.1),
 )
 ComeBetween-part x (Whole at t) n m i s vs le is h =
     (IsBetween-part (task_address x) n m i (tree_address at) vs le is h.0, h.1)
 
--- ---- the law: of parts, that their numbers are those of their sites, and of visits
+-- ---- the law: of parts, that their numbers are those of their occurrences, and of visits
 
 abbrev comes_in_order : Law
 comes_in_order = record {
   IsWell = λ s. Unit {0};
   IsNext = λ s n. Unit {0};
   MayEnter = λ f. Unit {0};
-  ComesTo = λ site e s. Unit {0};
-  Fits = λ site s. Unit {0};
+  ComesTo = λ occurrence e s. Unit {0};
+  Fits = λ occurrence s. Unit {0};
   Begins = λ t s. Unit {0};
   IsPart = λ x m s t. task_address t ≡ task_address x ++ (m ∷ []);
   MayWrite = λ ps. Unit {0};
@@ -132,7 +132,7 @@ comes_in_order-sound = record {
   part_begins = λ h. tt;
   none_written = tt;
   join_written = λ xs ys a b. tt;
-  front_written = λ f h. tt;
+  prefix_written = λ f h. tt;
   first_known = λ xs ys h. tt;
   later_known = λ xs ys h. tt;
   none_in = λ x n. (tt, tt);
@@ -151,7 +151,7 @@ comes_in_order-closed p = record {
   data_next = λ d h. tt;
   local_next = λ name l h. tt;
   no_local_next = λ name h. tt;
-  turn_next = λ path b t h. tt;
+  iteration_next = λ path b t h. tt;
   partial_next = λ tagged sets h. tt;
   block_well = λ may h. tt;
   block_fits = λ h. tt;
@@ -159,19 +159,19 @@ comes_in_order-closed p = record {
   empty_enters = tt;
   with_enters = λ base b variables. tt;
   inclusion_enters = λ d hs variables. tt;
-  handed_enters = λ i called chooses is. tt;
+  passed_enters = λ i called chooses is. tt;
   raw_well = λ h. tt;
   raw_comes = λ h. tt;
   raw_next = λ is. tt;
   own_next = λ h is. tt;
-  newest_keeps = λ h. MayKeep-any _;
+  newest_captured = λ h. MayCapture-any _;
   begun_well = λ h may. tt;
   over_next = λ h first last. tt;
   begins_well = λ h. tt;
   begins_comes = λ h known. tt;
   begins_fits = λ h is. tt;
   begins_raw = λ h. tt;
-  element_part = λ i h is behind. refl;
+  element_part = λ i h is after. refl;
   body_part = λ time comes call is fits h. refl;
   inverse_part = λ i comes is fits h. refl;
   block_part = λ tagged alone is fits h. refl;
@@ -181,7 +181,7 @@ comes_in_order-closed p = record {
   text_written = λ comes fits h. tt;
   value_written = λ t called has fits is shows h. tt;
   raw_written = λ called has fits is h. tt;
-  word_written = λ b called says. tt;
+  boolean_text_written = λ b called says. tt;
   step_written = λ i t called answers is. tt;
 }
 

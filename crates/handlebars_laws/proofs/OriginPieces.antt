@@ -1,32 +1,32 @@
--- Pieces that have origins: fronts of them, and those of a text that is put.
+-- Pieces that have origins: prefixes of them, and those of a text that is put.
 use Rattle.std.proofs.Common.{◌≡◌, List, [], ◌∷◌, Bool, true, false, Option, None, Some, unwrap_or, if◌then◌else◌, sym, append-nil}
 use Rattle.std.specs.List.{AllByRecursion}
 use Rattle.handlebars_base.specs.Bytes.{Text}
 use Rattle.handlebars_base.specs.Outputs.{IsPrefix}
-use Rattle.handlebars_base.specs.Values.{word}
+use Rattle.handlebars_base.specs.Values.{boolean_text}
 use Rattle.handlebars_template.specs.Tree.{Tree, Element}
 use Rattle.handlebars_scope.specs.Indentation.{lines_of, takes_indent}
 use Rattle.handlebars_scope.specs.LineState.{LineState}
-use Rattle.handlebars_meaning.specs.Origins.{IsWithin, tree_site_of, element_at, IsVisited, AreIndents, ComesFrom, HasOrigin, HaveOrigins}
-use Rattle.handlebars_meaning.specs.Pieces.{Origin, of_text, of_value, of_raw, of_word, of_step, of_indent, site_of, Piece, pieces_of, indent_pieces, pieces_between, pieces_before, put}
-use Rattle.handlebars_meaning.specs.Runs.{Front, none, cut_off, more}
-use Rattle.handlebars_meaning.specs.State.{Setting}
-use Rattle.handlebars_meaning.specs.Visits.{Visit}
+use Rattle.handlebars_semantics.specs.Origins.{IsWithin, tree_occurrence_of, element_at, IsVisited, AreIndents, ComesFrom, HasOrigin, HaveOrigins}
+use Rattle.handlebars_semantics.specs.Pieces.{Origin, of_text, of_value, of_raw, of_boolean_text, of_step, of_indent, occurrence_of, Piece, pieces_of, indent_pieces, pieces_between, pieces_before, put}
+use Rattle.handlebars_semantics.specs.Runs.{Prefix, none, truncated, more}
+use Rattle.handlebars_semantics.specs.State.{Setting}
+use Rattle.handlebars_semantics.specs.Visits.{Visit}
 use Rattle.handlebars_laws.proofs.Lists.{All-weaker, All-append}
 use Rattle.handlebars_laws.proofs.Within.{beginning_within, all_begins, beginning_beginning, lines_within}
 
 module _ (p : Setting) (u : Tree) (vs : List Visit) where
-  -- ---- fronts
+  -- ---- prefixes
 
-  ComesFrom-front : (o : Origin) (a b : Text) → IsPrefix a b → ComesFrom p u vs o b → ComesFrom p u vs o a
-  ComesFrom-front (of_text site) a b c h = record {
+  ComesFrom-prefix : (o : Origin) (a b : Text) → IsPrefix a b → ComesFrom p u vs o b → ComesFrom p u vs o a
+  ComesFrom-prefix (of_text occurrence) a b c h = record {
     all = h.all;
-    stands = h.stands;
+    occurs = h.occurs;
     state = h.state;
     reached = h.reached;
     is = beginning_within a b h.all c h.is;
   }
-  ComesFrom-front (of_value site v) a b c h = record {
+  ComesFrom-prefix (of_value occurrence v) a b c h = record {
     block = h.block;
     helper = h.helper;
     state = h.state;
@@ -38,7 +38,7 @@ module _ (p : Setting) (u : Tree) (vs : List Visit) where
     shows = h.shows;
     is = beginning_within a b h.all c h.is;
   }
-  ComesFrom-front (of_raw site v) a b c h = record {
+  ComesFrom-prefix (of_raw occurrence v) a b c h = record {
     block = h.block;
     helper = h.helper;
     state = h.state;
@@ -50,15 +50,15 @@ module _ (p : Setting) (u : Tree) (vs : List Visit) where
     shows = h.shows;
     is = beginning_within a b h.all c h.is;
   }
-  ComesFrom-front (of_word site w) a b c h = record {
+  ComesFrom-prefix (of_boolean_text occurrence w) a b c h = record {
     helper = h.helper;
     state = h.state;
     view = h.view;
     called = h.called;
     says = h.says;
-    is = beginning_beginning a b (word w) c h.is;
+    is = beginning_beginning a b (boolean_text w) c h.is;
   }
-  ComesFrom-front (of_step site i) a b c h = record {
+  ComesFrom-prefix (of_step occurrence i) a b c h = record {
     block = h.block;
     helper = h.helper;
     state = h.state;
@@ -70,19 +70,19 @@ module _ (p : Setting) (u : Tree) (vs : List Visit) where
     step = h.step;
     is = beginning_beginning a b h.all c h.is;
   }
-  ComesFrom-front (of_indent site) a b c h = record {
+  ComesFrom-prefix (of_indent occurrence) a b c h = record {
     writer = h.writer;
-    stands = h.stands;
+    occurs = h.occurs;
     visited = h.visited;
     all = h.all;
     indents = h.indents;
     is = beginning_beginning a b h.all c h.is;
   }
 
-  pub HaveOrigins-front : {xs ys : List Piece} → Front xs ys → HaveOrigins p u vs ys → HaveOrigins p u vs xs
-  HaveOrigins-front none h = tt
-  HaveOrigins-front (cut_off {p = x} {t = t} b) h = (ComesFrom-front x.origin t x.text b h.0, tt)
-  HaveOrigins-front (more f) h = (h.0, HaveOrigins-front f h.1)
+  pub HaveOrigins-prefix : {xs ys : List Piece} → Prefix xs ys → HaveOrigins p u vs ys → HaveOrigins p u vs xs
+  HaveOrigins-prefix none h = tt
+  HaveOrigins-prefix (truncated {p = x} {t = t} b) h = (ComesFrom-prefix x.origin t x.text b h.0, tt)
+  HaveOrigins-prefix (more f) h = (h.0, HaveOrigins-prefix f h.1)
 
   -- ---- texts that are put
 
@@ -103,15 +103,15 @@ module _ (p : Setting) (u : Tree) (vs : List Visit) where
   pieces_if-origins true ps h = h
   pieces_if-origins false ps h = tt
 
-  -- by an element that stands at its site, to which the run comes
+  -- by an element that is at its occurrence, to which the run comes
   pub put-origins : (o : Origin) (i : Option Text) (t : Text) (line : LineState) (e : Element)
-      → element_at u (site_of o) ≡ Some e → IsVisited vs (site_of o) → AreIndents p u vs (tree_site_of (site_of o)) (unwrap_or i [])
+      → element_at u (occurrence_of o) ≡ Some e → IsVisited vs (occurrence_of o) → AreIndents p u vs (tree_occurrence_of (occurrence_of o)) (unwrap_or i [])
       → ((a : Text) → IsWithin a t → ComesFrom p u vs o a) → HaveOrigins p u vs (put o i t line).0
-  put-origins o None t line e stands visited indents comes = pieces_of-origins o t (comes t (record { left = []; right = []; is = sym (append-nil t) }))
-  put-origins o (Some i) t line e stands visited indents comes =
-      let own = pieces_of-origins (of_indent (site_of o)) i (record {
+  put-origins o None t line e occurs visited indents comes = pieces_of-origins o t (comes t (record { left = []; right = []; is = sym (append-nil t) }))
+  put-origins o (Some i) t line e occurs visited indents comes =
+      let own = pieces_of-origins (of_indent (occurrence_of o)) i (record {
         writer = e;
-        stands = stands;
+        occurs = occurs;
         visited = visited;
         all = i;
         indents = indents;

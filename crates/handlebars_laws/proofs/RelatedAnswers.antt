@@ -1,23 +1,23 @@
 -- One pass through all questions, at two settings that differ in the registered templates, in the limit and in whether there
--- are sections, and in two states that differ in the current name: they are related where what parts of one's own are asked
--- is, and what is asked of sections, by any relation that is kept where one answer is asked for after another.
+-- are sections, and in two states that differ in the current name. The questions are related if what user-defined parts are
+-- asked is, and what is asked of sections, by any relation that is preserved when one answer is asked for after another.
 use Rattle.std.proofs.Common.{ℕ, Bool, true, false, ◌&&◌, List, Option, None, Some}
 use Rattle.handlebars_base.specs.Answers.{Answer}
 use Rattle.handlebars_base.specs.Bytes.{Text}
 use Rattle.handlebars_base.specs.PathAndData.{PathAndData}
 use Rattle.handlebars_base.specs.Scoped.{Found}
 use Rattle.handlebars_helpers.specs.CallView.{CallView, HelperView}
-use Rattle.handlebars_helpers.specs.Callee.{Callee, built, own, Target, calls_registered, calls_local}
-use Rattle.handlebars_helpers.specs.Decoration.{DecoratorKind, kind_inline, kind_own, DecoratorView}
-use Rattle.handlebars_helpers.specs.Escaping.{Escaping, HasEscaped, for_html, for_plain, by_own}
-use Rattle.handlebars_helpers.specs.Own.{HelperQuestion, Step, Offer, not_offered, offers_missing, offers}
-use Rattle.handlebars_helpers.specs.OwnDecorator.{DecoratorQuestion}
-use Rattle.handlebars_template.specs.Tree.{Tree, Element, expression, Call, call, call_name, is_value, Args, args, args_params, args_pairs, Param, name, path, literal, subexpression, Params, no_params, param, Pairs, no_pairs, pair}
-use Rattle.handlebars_meaning.specs.Asks.{Asks, only, ◌>>=◌}
-use Rattle.handlebars_meaning.specs.Sections.{ReadsAsPath, HasSectionPath, HasSectionIf}
-use Rattle.handlebars_meaning.specs.State.{Parts, Setting, State, helper_for}
-use Rattle.handlebars_meaning.specs.Questions.{Question, value_of, view_of, helper_of, called_as, hook_for, choice_of, escape_of, decorator_of, deeds_of, HasCalled, steps_or_offer, HasRegisteredChoice, HasChoice, HasDeeds, IsAnswered}
-use Rattle.handlebars_meaning.specs.Values.{offer_or_text, HasRegisteredValue, HasHelpedValue, is_written, is_viewed, HasValue, HasInnerValue, HasView, HasName, HaveValues, PairsHaveValues}
+use Rattle.handlebars_helpers.specs.Callee.{Callee, built, user, Target, calls_registered, calls_local}
+use Rattle.handlebars_helpers.specs.Decoration.{DecoratorKind, kind_inline, kind_user, DecoratorView}
+use Rattle.handlebars_helpers.specs.Escaping.{Escaping, HasEscaped, for_html, for_plain, by_user}
+use Rattle.handlebars_helpers.specs.UserHelper.{HelperQuestion, Step, Offer, not_offered, offers_missing, offers}
+use Rattle.handlebars_helpers.specs.UserDecorator.{DecoratorQuestion}
+use Rattle.handlebars_template.specs.Tree.{Tree, Element, escaped_expression, Call, call, call_name, is_value, Args, args, args_params, args_hash, Param, name, path, literal, subexpression, Params, no_params, param, Hash, no_hash, hash_pair}
+use Rattle.handlebars_semantics.specs.Asks.{Asks, only, ◌>>=◌}
+use Rattle.handlebars_semantics.specs.Sections.{ReadsAsPath, HasSectionPath, HasSectionIf}
+use Rattle.handlebars_semantics.specs.State.{Parts, Setting, State, helper_for}
+use Rattle.handlebars_semantics.specs.Questions.{Question, value_of, view_of, helper_of, called_as, hook_for, choice_of, escape_of, decorator_of, actions_of, HasCalled, steps_or_offer, HasRegisteredChoice, HasChoice, HasActions, IsAnswered}
+use Rattle.handlebars_semantics.specs.Values.{offer_or_text, HasRegisteredValue, HasHelpedValue, is_written, is_viewed, HasValue, HasInnerValue, HasView, HasName, HaveValues, HashHasValues}
 
 pub record Relation : Type 1 where
   pub Relates : {A : Type 0} → Asks A → Asks A → Type 0
@@ -26,12 +26,12 @@ pub record Relation : Type 1 where
       → Relates (m >>= f) (n >>= g)
   pub path_related : (n : Text) (v : CallView) → Relates (ReadsAsPath n v) (ReadsAsPath n v)
 
--- What parts of one's own are asked is related to itself.
-pub record OwnRelated (r : Relation) (p : Parts) : Type 0 where
-  pub steps : (n : Text) (x : HelperQuestion) → r.Relates ((p.own n).has_steps x) ((p.own n).has_steps x)
-  pub offer : (n : Text) (x : HelperQuestion) → r.Relates ((p.own n).has_offer x) ((p.own n).has_offer x)
-  pub deeds : (n : Text) (x : DecoratorQuestion) → r.Relates (p.own_decorator n x) (p.own_decorator n x)
-  pub escape : (t : Text) → r.Relates (p.own_escape t) (p.own_escape t)
+-- What user-defined parts are asked is related to itself.
+pub record UserRelated (r : Relation) (p : Parts) : Type 0 where
+  pub steps : (n : Text) (x : HelperQuestion) → r.Relates ((p.user n).has_steps x) ((p.user n).has_steps x)
+  pub offer : (n : Text) (x : HelperQuestion) → r.Relates ((p.user n).has_offer x) ((p.user n).has_offer x)
+  pub actions : (n : Text) (x : DecoratorQuestion) → r.Relates (p.user_decorator n x) (p.user_decorator n x)
+  pub escape : (t : Text) → r.Relates (p.user_escape t) (p.user_escape t)
 
 -- the setting with other templates and another limit, and with sections or without
 abbrev pub other_with : Setting → (Text → Option Tree) → ℕ → Bool → Setting
@@ -39,10 +39,10 @@ other_with p template limit sections =
     record p { parts = record p.parts { template = template; limit = limit; sections = sections } }
 
 -- and with sections if it has them
-abbrev pub other : Setting → (Text → Option Tree) → ℕ → Setting
-other p template limit = other_with p template limit p.parts.sections
+abbrev pub other_setting : Setting → (Text → Option Tree) → ℕ → Setting
+other_setting p template limit = other_with p template limit p.parts.sections
 
-module _ (r : Relation) (p : Setting) (own_related : OwnRelated r p.parts) (template : Text → Option Tree) (limit : ℕ)
+module _ (r : Relation) (p : Setting) (user_related : UserRelated r p.parts) (template : Text → Option Tree) (limit : ℕ)
     (sections : Bool) (s : State) (c : Option Text) where
   abbrev p' : Setting
   p' = other_with p template limit sections
@@ -50,20 +50,20 @@ module _ (r : Relation) (p : Setting) (own_related : OwnRelated r p.parts) (temp
   abbrev s' : State
   s' = record s { current = c }
 
-  -- ---- helpers of one's own
+  -- ---- user-defined helpers
 
   offer_or_text-related : (called : Text) (h : HelperView) (offer : Offer)
       → r.Relates (offer_or_text p s called h offer) (offer_or_text p' s' called h offer)
   offer_or_text-related called h not_offered =
-      r.then_related _ _ _ _ (own_related.steps called _) (λ steps. r.only_related _)
+      r.then_related _ _ _ _ (user_related.steps called _) (λ steps. r.only_related _)
   offer_or_text-related called h offers_missing = r.only_related _
   offer_or_text-related called h (offers d) = r.only_related _
 
   HasRegisteredValue-related : (k : Callee) (h : HelperView)
       → r.Relates (HasRegisteredValue p s k h) (HasRegisteredValue p' s' k h)
   HasRegisteredValue-related (built kind) h = r.only_related _
-  HasRegisteredValue-related (own called) h =
-      r.then_related _ _ _ _ (own_related.offer called _) (offer_or_text-related called h)
+  HasRegisteredValue-related (user called) h =
+      r.then_related _ _ _ _ (user_related.offer called _) (offer_or_text-related called h)
 
   HasHelpedValue-related : (target : Option Target) (h : HelperView)
       → r.Relates (HasHelpedValue p s target h) (HasHelpedValue p' s' target h)
@@ -75,31 +75,31 @@ module _ (r : Relation) (p : Setting) (own_related : OwnRelated r p.parts) (temp
   steps_or_offer-related : (called : Text) (h : HelperView) (steps : Option (List Step))
       → r.Relates (steps_or_offer p s called h steps) (steps_or_offer p' s' called h steps)
   steps_or_offer-related called h None =
-      r.then_related _ _ _ _ (own_related.offer called _) (λ offer. r.only_related _)
+      r.then_related _ _ _ _ (user_related.offer called _) (λ offer. r.only_related _)
   steps_or_offer-related called h (Some steps) = r.only_related _
 
   HasRegisteredChoice-related : (k : Callee) (h : HelperView)
       → r.Relates (HasRegisteredChoice p s k h) (HasRegisteredChoice p' s' k h)
   HasRegisteredChoice-related (built kind) h = r.only_related _
-  HasRegisteredChoice-related (own called) h =
-      r.then_related _ _ _ _ (own_related.steps called _) (steps_or_offer-related called h)
+  HasRegisteredChoice-related (user called) h =
+      r.then_related _ _ _ _ (user_related.steps called _) (steps_or_offer-related called h)
 
   HasChoice-related : (target : Target) (h : HelperView) → r.Relates (HasChoice p s target h) (HasChoice p' s' target h)
   HasChoice-related (calls_registered k) h = HasRegisteredChoice-related k h
   HasChoice-related (calls_local called) h =
       r.then_related _ _ _ _ (r.only_related _) (λ c. HasRegisteredChoice-related c.0 c.1)
 
-  -- ---- decorators and escape functions of one's own
+  -- ---- decorators and user-defined escape functions
 
-  HasDeeds-related : (kind : DecoratorKind) (v : DecoratorView) → r.Relates (HasDeeds p s kind v) (HasDeeds p' s' kind v)
-  HasDeeds-related kind_inline v = r.only_related _
-  HasDeeds-related (kind_own called) v = own_related.deeds called _
+  HasActions-related : (kind : DecoratorKind) (v : DecoratorView) → r.Relates (HasActions p s kind v) (HasActions p' s' kind v)
+  HasActions-related kind_inline v = r.only_related _
+  HasActions-related (kind_user called) v = user_related.actions called _
 
   HasEscaped-related : (escape : Escaping) (t : Text)
-      → r.Relates (HasEscaped escape p.parts.own_escape t) (HasEscaped escape p.parts.own_escape t)
+      → r.Relates (HasEscaped escape p.parts.user_escape t) (HasEscaped escape p.parts.user_escape t)
   HasEscaped-related for_html t = r.only_related _
   HasEscaped-related for_plain t = r.only_related _
-  HasEscaped-related by_own t = own_related.escape t
+  HasEscaped-related by_user t = user_related.escape t
 
   -- ---- parameters and calls
 
@@ -119,8 +119,8 @@ module _ (r : Relation) (p : Setting) (own_related : OwnRelated r p.parts) (temp
     HasValue-related (literal d) = r.only_related _
 
     HasInnerValue-related : (e : Element) → r.Relates (HasInnerValue p s e) (HasInnerValue p' s' e)
-    HasInnerValue-related (expression (call n (args ps hs) names t marks)) = r.then_related _ _ _ _
-        (is_viewed-related _ _ _ _ _ _ (HasName-related n) (HaveValues-related ps) (PairsHaveValues-related hs))
+    HasInnerValue-related (escaped_expression (call n (args ps hs) names t marks)) = r.then_related _ _ _ _
+        (is_viewed-related _ _ _ _ _ _ (HasName-related n) (HaveValues-related ps) (HashHasValues-related hs))
         (λ v. HasHelpedValue-related _ _)
     HasInnerValue-related e = r.only_related _
 
@@ -135,14 +135,14 @@ module _ (r : Relation) (p : Setting) (own_related : OwnRelated r p.parts) (temp
     HaveValues-related (param q qs) = r.then_related _ _ _ _ (is_written-related q _ _ (HasValue-related q))
         (λ v. r.then_related _ _ _ _ (HaveValues-related qs) (λ vs. r.only_related _))
 
-    PairsHaveValues-related : (hs : Pairs) → r.Relates (PairsHaveValues p s hs) (PairsHaveValues p' s' hs)
-    PairsHaveValues-related no_pairs = r.only_related _
-    PairsHaveValues-related (pair k q hs) = r.then_related _ _ _ _ (is_written-related q _ _ (HasValue-related q))
-        (λ v. r.then_related _ _ _ _ (PairsHaveValues-related hs) (λ ws. r.only_related _))
+    HashHasValues-related : (hs : Hash) → r.Relates (HashHasValues p s hs) (HashHasValues p' s' hs)
+    HashHasValues-related no_hash = r.only_related _
+    HashHasValues-related (hash_pair k q hs) = r.then_related _ _ _ _ (is_written-related q _ _ (HasValue-related q))
+        (λ v. r.then_related _ _ _ _ (HashHasValues-related hs) (λ ws. r.only_related _))
 
   HasView-related : (n : Param) (xs : Args) → r.Relates (HasView p s n xs) (HasView p' s' n xs)
   HasView-related n xs = is_viewed-related _ _ _ _ _ _ (HasName-related n) (HaveValues-related (args_params xs))
-      (PairsHaveValues-related (args_pairs xs))
+      (HashHasValues-related (args_hash xs))
 
   -- ---- sections
 
@@ -158,7 +158,7 @@ module _ (r : Relation) (p : Setting) (own_related : OwnRelated r p.parts) (temp
       (λ l. r.then_related _ _ _ _ (r.only_related _) (λ found. r.only_related _))
   HasSectionIf-related false q v = r.only_related _
 
-  -- What a block without a helper is asked is related, if it has no parameters and pairs or not.
+  -- What a block without a helper is asked is related, whether it has parameters and hash arguments or not.
   abbrev pub SectionsRelated : Type 0
   SectionsRelated = (b : Bool) (q : Param) (v : CallView)
       → r.Relates (HasSectionIf (p.parts.sections && b) p s q v) (HasSectionIf (sections && b) p' s' q v)
@@ -178,12 +178,12 @@ module _ (r : Relation) (p : Setting) (own_related : OwnRelated r p.parts) (temp
   IsAnswered-related_with are (choice_of target h) = HasChoice-related target h
   IsAnswered-related_with are (escape_of t) = HasEscaped-related p.parts.escape t
   IsAnswered-related_with are (decorator_of n) = r.only_related _
-  IsAnswered-related_with are (deeds_of kind v) = HasDeeds-related kind v
+  IsAnswered-related_with are (actions_of kind v) = HasActions-related kind v
 
 -- where there are sections in both settings, or in none
-pub IsAnswered-related : (r : Relation) (p : Setting) → OwnRelated r p.parts → (template : Text → Option Tree) (limit : ℕ)
+pub IsAnswered-related : (r : Relation) (p : Setting) → UserRelated r p.parts → (template : Text → Option Tree) (limit : ℕ)
     (s : State) (c : Option Text) (q : Question)
-    → r.Relates (IsAnswered p s q) (IsAnswered (other p template limit) (record s { current = c }) q)
-IsAnswered-related r p own_related template limit s c =
-    IsAnswered-related_with r p own_related template limit p.parts.sections s c
-    (λ b. HasSectionIf-related r p own_related template limit p.parts.sections s c (p.parts.sections && b))
+    → r.Relates (IsAnswered p s q) (IsAnswered (other_setting p template limit) (record s { current = c }) q)
+IsAnswered-related r p user_related template limit s c =
+    IsAnswered-related_with r p user_related template limit p.parts.sections s c
+    (λ b. HasSectionIf-related r p user_related template limit p.parts.sections s c (p.parts.sections && b))

@@ -1,4 +1,4 @@
--- States of a run: what is kept has origins, indentations are those of inclusions, and partials are those of the run.
+-- States of a run: what is captured has origins, indentations are those of inclusions, and partials are those of the run.
 use Rattle.std.proofs.Common.{◌≡◌, List, [], ◌∷◌, ◌++◌, append-nil, Bool, true, false, refl, sym, ap, ◌∙◌, subst, Option, Some, None, unwrap_or, option_and_then, cond, arith}
 use Rattle.std.specs.List.{AllByRecursion, Contains}
 use Rattle.std.specs.Str.{bytes_eq}
@@ -10,14 +10,14 @@ use Rattle.handlebars_template.specs.Tree.{Tree, Binding, Decorator, decorator_m
 use Rattle.handlebars_scope.specs.Resolve.{or_else}
 use Rattle.handlebars_scope.specs.Scopes.{Frame, empty_frame, Base, at_path, at_value, frame_at}
 use Rattle.handlebars_helpers.specs.CallView.{CallView}
-use Rattle.handlebars_helpers.specs.Turns.{Turn, turn_base, turn_frame, with_block}
-use Rattle.handlebars_meaning.specs.Inclusion.{is_own_block, newest, joined_indent}
-use Rattle.handlebars_meaning.specs.Laws.{IsPlain}
-use Rattle.handlebars_meaning.specs.Origins.{inclusion_tag, tree_site_of, element_at, IsTagged, Finds, AreIndents, around_first, around_included, around_own_block, HaveOrigins, IsLocalOfRun, stood_in}
-use Rattle.handlebars_meaning.specs.Sites.{as_part, first_tree, body_at, included_at, Site}
-use Rattle.handlebars_meaning.specs.State.{KeptBlocks, Setting, State, outer_frames, nearest_as, partial_in, with_partial}
-use Rattle.handlebars_meaning.specs.Visits.{Visit}
-use Rattle.handlebars_laws.proofs.Closed.{MayKeep}
+use Rattle.handlebars_helpers.specs.Iterations.{Iteration, iteration_base, iteration_frame, with_frame}
+use Rattle.handlebars_semantics.specs.Inclusion.{is_own_block, newest, joined_indent}
+use Rattle.handlebars_semantics.specs.Laws.{IsPlain}
+use Rattle.handlebars_semantics.specs.Origins.{inclusion_tag, tree_occurrence_of, element_at, IsTagged, Finds, AreIndents, around_first, around_included, around_own_block, HaveOrigins, IsLocalOfRun, in_block_before}
+use Rattle.handlebars_semantics.specs.Occurrences.{as_part, first_tree, body_at, included_at, Occurrence}
+use Rattle.handlebars_semantics.specs.State.{CapturedBlocks, Setting, State, outer_frames, nearest_as, partial_in, with_partial}
+use Rattle.handlebars_semantics.specs.Visits.{Visit}
+use Rattle.handlebars_laws.proofs.Closed.{MayCapture}
 
 -- ---- indentations
 
@@ -28,19 +28,19 @@ joined_indent-own (Some i) None = sym (append-nil i)
 joined_indent-own (Some i) (Some own) = refl
 
 module _ {p : Setting} {u : Tree} {vs : List Visit} where
-  pub included_at-indents : (site : Site) (x : Tree) (tag : Decorator) (i : Option Text)
-      → AreIndents p u vs (tree_site_of site) (unwrap_or i []) → option_and_then inclusion_tag (element_at u site) ≡ Some tag
-      → AreIndents p u vs (included_at site x) (unwrap_or (joined_indent i (decorator_marks tag).indent) [])
-  included_at-indents site x tag i h is =
-      subst (AreIndents p u vs (included_at site x)) (sym (joined_indent-own i (decorator_marks tag).indent))
+  pub included_at-indents : (occurrence : Occurrence) (x : Tree) (tag : Decorator) (i : Option Text)
+      → AreIndents p u vs (tree_occurrence_of occurrence) (unwrap_or i []) → option_and_then inclusion_tag (element_at u occurrence) ≡ Some tag
+      → AreIndents p u vs (included_at occurrence x) (unwrap_or (joined_indent i (decorator_marks tag).indent) [])
+  included_at-indents occurrence x tag i h is =
+      subst (AreIndents p u vs (included_at occurrence x)) (sym (joined_indent-own i (decorator_marks tag).indent))
       (around_included h is)
 
-  pub own_block-indents : (site : Site) (x : Tree) (tag : Decorator) (s : State) (v : CallView) (i : Option Text)
-      → AreIndents p u vs (tree_site_of site) (unwrap_or i []) → IsTagged p u vs site inclusion_tag tag s v
+  pub own_block-indents : (occurrence : Occurrence) (x : Tree) (tag : Decorator) (s : State) (v : CallView) (i : Option Text)
+      → AreIndents p u vs (tree_occurrence_of occurrence) (unwrap_or i []) → IsTagged p u vs occurrence inclusion_tag tag s v
       → Finds p tag s v (is_own_block x)
-      → AreIndents p u vs (body_at site (as_part 0)) (unwrap_or (joined_indent i (decorator_marks tag).indent) [])
-  own_block-indents site x tag s v i h is finds =
-      subst (AreIndents p u vs (body_at site (as_part 0))) (sym (joined_indent-own i (decorator_marks tag).indent))
+      → AreIndents p u vs (body_at occurrence (as_part 0)) (unwrap_or (joined_indent i (decorator_marks tag).indent) [])
+  own_block-indents occurrence x tag s v i h is finds =
+      subst (AreIndents p u vs (body_at occurrence (as_part 0))) (sym (joined_indent-own i (decorator_marks tag).indent))
       (around_own_block h is finds)
 
   pub no_indent-indents : (i : Option Text) → i ≡ None → AreIndents p u vs first_tree (unwrap_or i [])
@@ -60,7 +60,7 @@ pub Some-injective : (x t : Tree) → Some x ≡ Some t → x ≡ t
 unfolding tree_or
 Some-injective x t is = ap (tree_or x) is
 
--- a block's partials don't depend on where it stands
+-- a scope frame's partials don't depend on where it is
 frame_at-partial : (base : Base) (f : Frame) (n : Text) → (frame_at base f).partial n ≡ f.partial n
 frame_at-partial (at_path path) f n = refl
 frame_at-partial (at_value d) f n = refl
@@ -68,26 +68,26 @@ frame_at-partial (at_value d) f n = refl
 -- ---- states
 
 module _ (p : Setting) (u : Tree) (blocks : List Frame) (vs : List Visit) where
-  -- a block of scope with no other partials than those of the run
+  -- a scope frame with no other partials than those of the run
   abbrev pub IsFrameOfRun : Frame → Type 0
   IsFrameOfRun f = (n : Text) (t : Tree) → f.partial n ≡ Some t → IsLocalOfRun p u blocks vs n t
 
-  -- Of the fields that matter, so that a change of any other keeps it.
-  pub record AreOfRun (ks : KeptBlocks) (fs : List Frame) : Type 0 where
-    pub kept : AllByRecursion (MayKeep (HaveOrigins p u vs)) ks
+  -- Of the fields that matter, so that a change of any other preserves it.
+  pub record AreOfRun (ks : CapturedBlocks) (fs : List Frame) : Type 0 where
+    pub captured : AllByRecursion (MayCapture (HaveOrigins p u vs)) ks
     pub frames : AllByRecursion IsFrameOfRun fs
 
   abbrev pub IsOfRun : State → Type 0
-  IsOfRun s = AreOfRun s.kept s.blocks
+  IsOfRun s = AreOfRun s.captured s.blocks
 
-  -- a state behind another one: escaping and the indentation are as they were
-  pub record IsBehind (s n : State) : Type 0 where
+  -- a state after another one: escaping and the indentation are as they were
+  pub record IsReachedFrom (s n : State) : Type 0 where
     pub escapes : n.escapes ≡ s.escapes
     pub indent : n.indent ≡ s.indent
     pub of_run : IsOfRun n
 
-  pub newest-origins : (ks : KeptBlocks) → AllByRecursion (MayKeep (HaveOrigins p u vs)) ks
-      → MayKeep (HaveOrigins p u vs) (newest ks)
+  pub newest-origins : (ks : CapturedBlocks) → AllByRecursion (MayCapture (HaveOrigins p u vs)) ks
+      → MayCapture (HaveOrigins p u vs) (newest ks)
   newest-origins [] h = tt
   newest-origins (k ∷ ks) h = h.0
 
@@ -126,29 +126,29 @@ module _ (p : Setting) (u : Tree) (blocks : List Frame) (vs : List Visit) where
   with_partial-frame name x h f g = λ n t is.
       put_at-local (bytes_eq name n) name n x (f.partial n) t (bytes_eq-Decides name n).0 h (g n t) is
 
-  pub turn_frame-frame : (path : Option (List Text)) (b : Binding) (t : Turn) (f : Frame) → IsFrameOfRun f
-      → IsFrameOfRun (turn_frame path b t f)
-  turn_frame-frame path b t f h = λ n x is. h n x (sym (frame_at-partial (turn_base path t) f n) ∙ is)
+  pub iteration_frame-frame : (path : Option (List Text)) (b : Binding) (t : Iteration) (f : Frame) → IsFrameOfRun f
+      → IsFrameOfRun (iteration_frame path b t f)
+  iteration_frame-frame path b t f h = λ n x is. h n x (sym (frame_at-partial (iteration_base path t) f n) ∙ is)
 
-  pub with_block-frame : (base : Base) (b : Binding) (variables : Text → Option Data)
-      → IsFrameOfRun (with_block base b variables)
-  with_block-frame base b variables = λ n x is. None≢Some (sym (frame_at-partial base empty_frame n) ∙ is)
+  pub with_frame-frame : (base : Base) (b : Binding) (variables : Text → Option Data)
+      → IsFrameOfRun (with_frame base b variables)
+  with_frame-frame base b variables = λ n x is. None≢Some (sym (frame_at-partial base empty_frame n) ∙ is)
 
   -- ---- where a run begins
 
-  no_kept-origins : (ks : KeptBlocks) → ks ≡ [] → AllByRecursion (MayKeep (HaveOrigins p u vs)) ks
-  no_kept-origins [] is = tt
-  no_kept-origins (k ∷ ks) is = cc
+  no_captured-origins : (ks : CapturedBlocks) → ks ≡ [] → AllByRecursion (MayCapture (HaveOrigins p u vs)) ks
+  no_captured-origins [] is = tt
+  no_captured-origins (k ∷ ks) is = cc
 
   first_frames : (fs : List Frame) → ((f : Frame) → Contains fs f → Contains blocks f) → AllByRecursion IsFrameOfRun fs
   first_frames [] are = tt
   first_frames (f ∷ fs) are = (
-    λ n t is. stood_in f (are f (0, omega arith, refl)) is,
+    λ n t is. in_block_before f (are f (0, omega arith, refl)) is,
     first_frames fs (λ g has. are g (Contains-append_right (f ∷ []) fs g has)),
   )
 
   pub first-of_run : (s : State) → IsPlain s → ((f : Frame) → Contains s.blocks f → Contains blocks f) → IsOfRun s
   first-of_run s plain are = record {
-    kept = no_kept-origins s.kept plain.kept;
+    captured = no_captured-origins s.captured plain.captured;
     frames = first_frames s.blocks are;
   }

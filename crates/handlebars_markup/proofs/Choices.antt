@@ -1,10 +1,10 @@
--- What a blind helper chooses for alike views of its call is alike.
+-- What a blind helper chooses for views of its call that are equal up to texts is equal up to texts.
 use Rattle.std.proofs.Common.{◌≡◌, ℕ, ◌+◌, ◌==◌, Bool, true, false, not, ◌&&◌, ◌||◌, List, [], ◌∷◌, Option, Some, cond, codes, if◌then◌else◌, unwrap_or, refl, ap, sym, ◌∙◌, subst}
 use Rattle.std.specs.Map.{lookup}
 use Rattle.std.specs.Str.{bytes_eq}
 use Rattle.serde_json.specs.Data.{Data, null, boolean, number, string, array, object, Items, no_items, item, Members, no_members, member}
 use Rattle.serde_json.specs.Find.{as_bool}
-use Rattle.handlebars_base.specs.Answers.{Answer, gives, refuses_for}
+use Rattle.handlebars_base.specs.Answers.{Answer, gives, fails_for}
 use Rattle.handlebars_base.specs.Bytes.{Text}
 use Rattle.handlebars_base.specs.PathAndData.{PathAndData}
 use Rattle.handlebars_base.specs.Reasons.{missing_variable, param_not_found_for_index}
@@ -14,20 +14,20 @@ use Rattle.handlebars_base.specs.Values.{truth}
 use Rattle.handlebars_template.specs.Tree.{Binding, Body}
 use Rattle.handlebars_scope.specs.Scopes.{base_of}
 use Rattle.handlebars_helpers.specs.Boolean.{negation, all_true, some_true}
-use Rattle.handlebars_helpers.specs.CallView.{CallView, HelperView, param_at, pair_at}
-use Rattle.handlebars_helpers.specs.Choice.{Kind, kind_if, kind_unless, kind_each, kind_with, kind_lookup, kind_raw, kind_log, kind_eq, kind_ne, kind_gt, kind_gte, kind_lt, kind_lte, kind_and, kind_or, kind_not, kind_len, the_inverse, body_in_block, the_word, nothing, body_if, includes_zero, condition, lacks, inverse_or_refusal, turns_or_inverse, walk_or_inverse, each_choice, with_choice, built_in_choice}
+use Rattle.handlebars_helpers.specs.CallView.{CallView, HelperView, param_at, hash_at}
+use Rattle.handlebars_helpers.specs.Choice.{BuiltInKind, kind_if, kind_unless, kind_each, kind_with, kind_lookup, kind_raw, kind_log, kind_eq, kind_ne, kind_gt, kind_gte, kind_lt, kind_lte, kind_and, kind_or, kind_not, kind_len, the_inverse, body_in_block, the_boolean, nothing, body_if, includes_zero, condition, lacks, inverse_or_refusal, iterations_or_inverse, walk_or_inverse, each_choice, with_choice, built_in_choice}
 use Rattle.handlebars_helpers.specs.Params.{is_missing, by_param}
-use Rattle.handlebars_helpers.specs.Turns.{Turn, item_turns, member_turns, item_count, member_count, turns_of}
+use Rattle.handlebars_helpers.specs.Iterations.{Iteration, item_iterations, member_iterations, item_count, member_count, iterations_of}
 use Rattle.handlebars_markup.specs.Alike.{AreAlike, AreAlikeItems, AreAlikeMembers}
 use Rattle.handlebars_markup.specs.Blind.{is_blind}
-use Rattle.handlebars_markup.proofs.Alikeness.{AreAlikeOptions, AreAlikeLists, AreAlikeAnswers, AreAlikeFound, AreAlikeBases, AreAlikeParams, AreAlikePairs, AreAlikeViews, AreAlikeTurns, AreAlikeChoices}
+use Rattle.handlebars_markup.proofs.Alikeness.{AreAlikeOptions, AreAlikeLists, AreAlikeAnswers, AreAlikeFound, AreAlikeBases, AreAlikeParams, AreAlikeHash, AreAlikeViews, AreAlikeIterations, AreAlikeChoices}
 use Rattle.handlebars_markup.proofs.Values.{cond-alike, slice_get-alike, with_or-alike, answer_map-alike, truth-alike, data_in-alike}
 
 -- a call's view with what else its helper sees
-abbrev pub shown : Binding → Body → Body → Bool → CallView → HelperView
-shown names b i block v = record { call = v; binding = names; body = b; inverse = i; block = block }
+abbrev pub shown_helper_call : Binding → Body → Body → Bool → CallView → HelperView
+shown_helper_call names b i block v = record { call = v; binding = names; body = b; inverse = i; block = block }
 
--- of tests with one outcome the branches
+-- the branches of tests with one outcome are related
 if-same : {A : Type 0} (R : A → A → Type 0) (b c : Bool) (x x' y y' : A) → b ≡ c → R x y → R x' y'
     → R (if b then x else x') (if c then y else y')
 if-same R true true x x' y y' is h k = h
@@ -35,7 +35,7 @@ if-same R false false x x' y y' is h k = k
 if-same R true false x x' y y' is h k = cc
 if-same R false true x x' y y' is h k = cc
 
--- ---- parameters and pairs
+-- ---- parameters and hash arguments
 
 is_missing-alike : (v w : Found) → AreAlikeFound v w → is_missing v ≡ is_missing w
 is_missing-alike (walked d ns) (walked e ms) h = refl
@@ -50,11 +50,11 @@ by_param-alike : {A : Type 0} (R : A → A → Type 0) (helper : Text) (i : ℕ)
     → AreAlikeViews v w → ((p q : PathAndData) → AreAlikeParams p q → AreAlikeAnswers R (f p) (g q))
     → AreAlikeAnswers R (by_param helper i v f) (by_param helper i w g)
 by_param-alike {A = A} R helper i v w f g h k =
-    let refusal : Answer A = refuses_for (param_not_found_for_index helper i) in
+    let refusal : Answer A = fails_for (param_not_found_for_index helper i) in
     with_or-alike AreAlikeParams (AreAlikeAnswers R) (param_at i v) (param_at i w) f g refusal refusal
     (slice_get-alike AreAlikeParams v.params w.params i h.params) k refl
 
-lookup-alike : (key : Text) (xs ys : List (Text × PathAndData)) → AreAlikeLists AreAlikePairs xs ys
+lookup-alike : (key : Text) (xs ys : List (Text × PathAndData)) → AreAlikeLists AreAlikeHash xs ys
     → AreAlikeOptions AreAlikeParams (lookup (bytes_eq key) xs) (lookup (bytes_eq key) ys)
 lookup-alike key [] [] h = tt
 lookup-alike key (x ∷ xs) (y ∷ ys) h =
@@ -79,9 +79,9 @@ as_bool-alike d e h = absurd h
 
 includes_zero-alike : (v w : CallView) → AreAlikeViews v w → includes_zero v ≡ includes_zero w
 includes_zero-alike v w h =
-    let told = λ (p : PathAndData). unwrap_or (as_bool (data_in p.found)) false in
-    with_or-alike AreAlikeParams (λ (b c : Bool). b ≡ c) (pair_at (codes "includeZero") v) (pair_at (codes "includeZero") w)
-    told told false false (lookup-alike (codes "includeZero") v.pairs w.pairs h.pairs)
+    let as_flag = λ (p : PathAndData). unwrap_or (as_bool (data_in p.found)) false in
+    with_or-alike AreAlikeParams (λ (b c : Bool). b ≡ c) (hash_at (codes "includeZero") v) (hash_at (codes "includeZero") w)
+    as_flag as_flag false false (lookup-alike (codes "includeZero") v.hash w.hash h.hash)
     (λ p q k. ap (λ o. unwrap_or o false)
     (as_bool-alike (data_in p.found) (data_in q.found) (data_in-alike p.found q.found k.found))) refl
 
@@ -98,7 +98,7 @@ body_if-alike false false is = tt
 body_if-alike true false is = cc
 body_if-alike false true is = cc
 
--- ---- turns
+-- ---- iterations
 
 item_count-alike : (ds es : Items) → AreAlikeItems ds es → item_count ds ≡ item_count es
 item_count-alike no_items no_items h = refl
@@ -110,38 +110,38 @@ member_count-alike no_members no_members h = refl
 member_count-alike (member k d ms) (member l e ns) h = ap (λ n. n + 1) (member_count-alike ms ns h.2)
 member_count-alike ms ns h = absurd h
 
-item_turns-alike : (n i : ℕ) (ds es : Items) → AreAlikeItems ds es
-    → AreAlikeLists AreAlikeTurns (item_turns n i ds) (item_turns n i es)
-item_turns-alike n i no_items no_items h = tt
-item_turns-alike n i (item d ds) (item e es) h = ((e, refl, h.0), item_turns-alike n (i + 1) ds es h.1)
-item_turns-alike n i ds es h = absurd h
+item_iterations-alike : (n i : ℕ) (ds es : Items) → AreAlikeItems ds es
+    → AreAlikeLists AreAlikeIterations (item_iterations n i ds) (item_iterations n i es)
+item_iterations-alike n i no_items no_items h = tt
+item_iterations-alike n i (item d ds) (item e es) h = ((e, refl, h.0), item_iterations-alike n (i + 1) ds es h.1)
+item_iterations-alike n i ds es h = absurd h
 
-abbrev keyed_turn : ℕ → Bool → Data → Text → Turn
-keyed_turn i last d k = record { index = i; key = Some k; last = last; member = d }
+abbrev keyed_iteration : ℕ → Bool → Data → Text → Iteration
+keyed_iteration i last d k = record { index = i; key = Some k; last = last; member = d }
 
-member_turns-alike : (n i : ℕ) (ms ns : Members) → AreAlikeMembers ms ns
-    → AreAlikeLists AreAlikeTurns (member_turns n i ms) (member_turns n i ns)
-member_turns-alike n i no_members no_members h = tt
-member_turns-alike n i (member k d ms) (member l e ns) h =
-    ((e, ap (keyed_turn i (i + 1 == n) e) (sym h.0), h.1), member_turns-alike n (i + 1) ms ns h.2)
-member_turns-alike n i ms ns h = absurd h
+member_iterations-alike : (n i : ℕ) (ms ns : Members) → AreAlikeMembers ms ns
+    → AreAlikeLists AreAlikeIterations (member_iterations n i ms) (member_iterations n i ns)
+member_iterations-alike n i no_members no_members h = tt
+member_iterations-alike n i (member k d ms) (member l e ns) h =
+    ((e, ap (keyed_iteration i (i + 1 == n) e) (sym h.0), h.1), member_iterations-alike n (i + 1) ms ns h.2)
+member_iterations-alike n i ms ns h = absurd h
 
-array-turns : (ds es : Items) → AreAlikeItems ds es → AreAlikeLists AreAlikeTurns (turns_of (array ds)) (turns_of (array es))
-array-turns ds es h =
-    subst (λ (n : ℕ). AreAlikeLists AreAlikeTurns (item_turns (item_count ds) 0 ds) (item_turns n 0 es))
-    (item_count-alike ds es h) (item_turns-alike (item_count ds) 0 ds es h)
+array-iterations : (ds es : Items) → AreAlikeItems ds es → AreAlikeLists AreAlikeIterations (iterations_of (array ds)) (iterations_of (array es))
+array-iterations ds es h =
+    subst (λ (n : ℕ). AreAlikeLists AreAlikeIterations (item_iterations (item_count ds) 0 ds) (item_iterations n 0 es))
+    (item_count-alike ds es h) (item_iterations-alike (item_count ds) 0 ds es h)
 
-object-turns : (ms ns : Members) → AreAlikeMembers ms ns
-    → AreAlikeLists AreAlikeTurns (turns_of (object ms)) (turns_of (object ns))
-object-turns ms ns h =
-    subst (λ (n : ℕ). AreAlikeLists AreAlikeTurns (member_turns (member_count ms) 0 ms) (member_turns n 0 ns))
-    (member_count-alike ms ns h) (member_turns-alike (member_count ms) 0 ms ns h)
+object-iterations : (ms ns : Members) → AreAlikeMembers ms ns
+    → AreAlikeLists AreAlikeIterations (iterations_of (object ms)) (iterations_of (object ns))
+object-iterations ms ns h =
+    subst (λ (n : ℕ). AreAlikeLists AreAlikeIterations (member_iterations (member_count ms) 0 ms) (member_iterations n 0 ns))
+    (member_count-alike ms ns h) (member_iterations-alike (member_count ms) 0 ms ns h)
 
-turns_or_inverse-alike : (path other : Option (List Text)) (ts us : List Turn) → path ≡ other
-    → AreAlikeLists AreAlikeTurns ts us → AreAlikeChoices (turns_or_inverse path ts) (turns_or_inverse other us)
-turns_or_inverse-alike path other [] [] is h = tt
-turns_or_inverse-alike path other (t ∷ ts) (u ∷ us) is h = (is, h)
-turns_or_inverse-alike path other ts us is h = absurd h
+iterations_or_inverse-alike : (path other : Option (List Text)) (ts us : List Iteration) → path ≡ other
+    → AreAlikeLists AreAlikeIterations ts us → AreAlikeChoices (iterations_or_inverse path ts) (iterations_or_inverse other us)
+iterations_or_inverse-alike path other [] [] is h = tt
+iterations_or_inverse-alike path other (t ∷ ts) (u ∷ us) is h = (is, h)
+iterations_or_inverse-alike path other ts us is h = absurd h
 
 path_in-alike : (v w : Found) → AreAlikeFound v w → path_in v ≡ path_in w
 path_in-alike (walked d ns) (walked e ms) h = ap (λ z. Some z) h.1
@@ -175,10 +175,10 @@ some_true-alike ps qs h = absurd h
 
 module _ (strict : Bool) (names : Binding) (b i : Body) (block : Bool) (v w : CallView) (h : AreAlikeViews v w) where
   abbrev first : HelperView
-  first = shown names b i block v
+  first = shown_helper_call names b i block v
 
   abbrev second : HelperView
-  second = shown names b i block w
+  second = shown_helper_call names b i block w
 
   -- ---- `each` and `with`
 
@@ -186,8 +186,8 @@ module _ (strict : Bool) (names : Binding) (b i : Body) (block : Bool) (v w : Ca
       → AreAlikeAnswers AreAlikeChoices (inverse_or_refusal strict first p) (inverse_or_refusal strict second q)
   inverse_or_refusal-alike p q k =
       let c = strict && lacks i in
-      if-same (AreAlikeAnswers AreAlikeChoices) c c (refuses_for (missing_variable p.relative_path)) (gives the_inverse)
-      (refuses_for (missing_variable q.relative_path)) (gives the_inverse) refl
+      if-same (AreAlikeAnswers AreAlikeChoices) c c (fails_for (missing_variable p.relative_path)) (gives the_inverse)
+      (fails_for (missing_variable q.relative_path)) (gives the_inverse) refl
       (ap (λ (z : Option Text). plain_refusal (missing_variable z)) k.path) tt
 
   walk_or_inverse-alike : (p q : PathAndData) (d e : Data) → AreAlikeParams p q → AreAlike d e
@@ -197,11 +197,11 @@ module _ (strict : Bool) (names : Binding) (b i : Body) (block : Bool) (v w : Ca
   walk_or_inverse-alike p q (number n) (number m) k g = inverse_or_refusal-alike p q k
   walk_or_inverse-alike p q (string s) (string t) k g = inverse_or_refusal-alike p q k
   walk_or_inverse-alike p q (array ds) (array es) k g =
-      turns_or_inverse-alike (path_in p.found) (path_in q.found) (turns_of (array ds)) (turns_of (array es))
-      (path_in-alike p.found q.found k.found) (array-turns ds es g)
+      iterations_or_inverse-alike (path_in p.found) (path_in q.found) (iterations_of (array ds)) (iterations_of (array es))
+      (path_in-alike p.found q.found k.found) (array-iterations ds es g)
   walk_or_inverse-alike p q (object ms) (object ns) k g =
-      turns_or_inverse-alike (path_in p.found) (path_in q.found) (turns_of (object ms)) (turns_of (object ns))
-      (path_in-alike p.found q.found k.found) (object-turns ms ns g)
+      iterations_or_inverse-alike (path_in p.found) (path_in q.found) (iterations_of (object ms)) (iterations_of (object ns))
+      (path_in-alike p.found q.found k.found) (object-iterations ms ns g)
   walk_or_inverse-alike p q d e k g = absurd g
 
   each_choice-alike : (p q : PathAndData) → AreAlikeParams p q
@@ -223,7 +223,7 @@ module _ (strict : Bool) (names : Binding) (b i : Body) (block : Bool) (v w : Ca
 
   negation-alike : AreAlikeAnswers (λ (c d : Bool). c ≡ d) (negation strict v) (negation strict w)
   negation-alike =
-      let refusal : Answer Bool = refuses_for (param_not_found_for_index (codes "not") 0) in
+      let refusal : Answer Bool = fails_for (param_not_found_for_index (codes "not") 0) in
       by_param-alike (λ (c d : Bool). c ≡ d) (codes "not") 0 v w
       (λ p. if strict && is_missing p.found then refusal else gives (not (truth false (data_in p.found))))
       (λ q. if strict && is_missing q.found then refusal else gives (not (truth false (data_in q.found)))) h
@@ -234,7 +234,7 @@ module _ (strict : Bool) (names : Binding) (b i : Body) (block : Bool) (v w : Ca
 
   -- ---- all that are blind
 
-  pub built_in_choice-alike : (k : Kind) → is_blind k ≡ true
+  pub built_in_choice-alike : (k : BuiltInKind) → is_blind k ≡ true
       → AreAlikeAnswers AreAlikeChoices (built_in_choice strict k first) (built_in_choice strict k second)
   built_in_choice-alike kind_if is = answer_map-alike (λ (c d : Bool). c ≡ d) AreAlikeChoices (condition v) (condition w)
       body_if body_if (condition-alike v w h) body_if-alike
@@ -249,7 +249,7 @@ module _ (strict : Bool) (names : Binding) (b i : Body) (block : Bool) (v w : Ca
   built_in_choice-alike kind_and is = all_true-alike v.params w.params h.params
   built_in_choice-alike kind_or is = some_true-alike v.params w.params h.params
   built_in_choice-alike kind_not is = answer_map-alike (λ (c d : Bool). c ≡ d) AreAlikeChoices (negation strict v)
-      (negation strict w) (λ c. the_word c) (λ d. the_word d) negation-alike (λ c d k. k)
+      (negation strict w) (λ c. the_boolean c) (λ d. the_boolean d) negation-alike (λ c d k. k)
   built_in_choice-alike kind_lookup is = cc
   built_in_choice-alike kind_log is = cc
   built_in_choice-alike kind_eq is = cc

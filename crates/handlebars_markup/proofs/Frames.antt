@@ -1,4 +1,4 @@
--- Blocks of scope that are set up alike, and lists of alike blocks.
+-- Scope frames that are set up equally, and lists of scope frames that are equal up to texts.
 use Rattle.std.proofs.Common.{◌≡◌, ◌==◌, List, [], ◌∷◌, Option, None, Some, codes, cond, refl, ap, sym, subst}
 use Rattle.std.specs.Str.{bytes_eq}
 use Rattle.serde_json.specs.Data.{Data, boolean, number, unsigned, string}
@@ -8,11 +8,11 @@ use Rattle.handlebars_template.specs.Tree.{Tree, Binding, no_binding, single, bo
 use Rattle.handlebars_scope.specs.Resolve.{or_else}
 use Rattle.handlebars_scope.specs.Scopes.{nothing_at, put_at, Bound, bound_value, Frame, empty_frame, Base, at_path, at_value, frame_at, bound_base}
 use Rattle.handlebars_helpers.specs.CallView.{single_name, both_names}
-use Rattle.handlebars_helpers.specs.Turns.{Turn, turn_key, turn_base, with_key, turn_variables, bind_one, bind_both, bound_in_turn, turn_frame, with_block}
-use Rattle.handlebars_meaning.specs.Inclusion.{pair_values, inclusion_block}
-use Rattle.handlebars_meaning.specs.State.{outer_frames, nearest_as, nearest_variables, partial_in, with_partial}
+use Rattle.handlebars_helpers.specs.Iterations.{Iteration, iteration_key, iteration_base, with_key, iteration_variables, bind_one, bind_both, bound_in_iteration, iteration_frame, with_frame}
+use Rattle.handlebars_semantics.specs.Inclusion.{hash_data, inclusion_frame}
+use Rattle.handlebars_semantics.specs.State.{outer_frames, nearest_as, nearest_variables, partial_in, with_partial}
 use Rattle.handlebars_markup.specs.Alike.{AreAlike}
-use Rattle.handlebars_markup.proofs.Alikeness.{AreAlikeOptions, AreAlikeLists, AreAlikeMaps, AreAlikeBound, AreAlikeFrames, AreAlikeBases, AreAlikePairs, AreAlikeTurns}
+use Rattle.handlebars_markup.proofs.Alikeness.{AreAlikeOptions, AreAlikeLists, AreAlikeMaps, AreAlikeBound, AreAlikeFrames, AreAlikeBases, AreAlikeHash, AreAlikeIterations}
 use Rattle.handlebars_markup.proofs.Values.{AreAlike-self, cond-alike}
 
 -- ---- maps by name
@@ -57,23 +57,23 @@ bind_both-alike (Some names) b c key h k =
     put_at-alike AreAlikeBound names.1 key key (put_at names.0 b nothing_at) (put_at names.0 c nothing_at) k
     (put_at-alike AreAlikeBound names.0 b c nothing_at nothing_at h (nothing_at-alike AreAlikeBound))
 
-bound_in_turn-alike : (names : Binding) (b c : Bound) (key : Data) → AreAlikeBound b c
-    → AreAlikeMaps AreAlikeBound (bound_in_turn names b key) (bound_in_turn names c key)
-bound_in_turn-alike no_binding b c key h = nothing_at-alike AreAlikeBound
-bound_in_turn-alike (single p) b c key h = bind_one-alike (single_name (single p)) b c h
-bound_in_turn-alike (both p q) b c key h =
+bound_in_iteration-alike : (names : Binding) (b c : Bound) (key : Data) → AreAlikeBound b c
+    → AreAlikeMaps AreAlikeBound (bound_in_iteration names b key) (bound_in_iteration names c key)
+bound_in_iteration-alike no_binding b c key h = nothing_at-alike AreAlikeBound
+bound_in_iteration-alike (single p) b c key h = bind_one-alike (single_name (single p)) b c h
+bound_in_iteration-alike (both p q) b c key h =
     bind_both-alike (both_names (both p q)) b c (bound_value key) h (AreAlike-self key)
 
--- ---- the blocks of `each` and `with`
+-- ---- the scope frames of `each` and `with`
 
 with_key-alike : (o : Option Text) (f g : Text → Option Data) → AreAlikeMaps AreAlike f g
     → AreAlikeMaps AreAlike (with_key o f) (with_key o g)
 with_key-alike None f g h = h
 with_key-alike (Some k) f g h = put_at-alike AreAlike (codes "key") (string k) (string k) f g (AreAlike-self (string k)) h
 
-turn_variables-alike : (t : Turn) (f g : Text → Option Data) → AreAlikeMaps AreAlike f g
-    → AreAlikeMaps AreAlike (turn_variables t f) (turn_variables t g)
-turn_variables-alike t f g h =
+iteration_variables-alike : (t : Iteration) (f g : Text → Option Data) → AreAlikeMaps AreAlike f g
+    → AreAlikeMaps AreAlike (iteration_variables t f) (iteration_variables t g)
+iteration_variables-alike t f g h =
     let index = number (unsigned t.index) in
     let last = boolean t.last in
     let first = boolean (t.index == 0) in
@@ -85,66 +85,66 @@ turn_variables-alike t f g h =
     (put_at-alike AreAlike (codes "last") last last (put_at (codes "first") first f) (put_at (codes "first") first g) refl
     (put_at-alike AreAlike (codes "first") first first f g refl h)))
 
-turn_base-alike : (path : Option (List Text)) (t : Turn) (d : Data) → AreAlike t.member d
-    → AreAlikeBases (turn_base path t) (turn_base path (record t { member = d }))
-turn_base-alike None t d h = h
-turn_base-alike (Some path) t d h = refl
+iteration_base-alike : (path : Option (List Text)) (t : Iteration) (d : Data) → AreAlike t.member d
+    → AreAlikeBases (iteration_base path t) (iteration_base path (record t { member = d }))
+iteration_base-alike None t d h = h
+iteration_base-alike (Some path) t d h = refl
 
-turn_frame-member : (path : Option (List Text)) (names : Binding) (t : Turn) (d : Data) (f g : Frame) → AreAlike t.member d
-    → AreAlikeFrames f g → AreAlikeFrames (turn_frame path names t f) (turn_frame path names (record t { member = d }) g)
-turn_frame-member path names t d f g h k =
-    let base = turn_base path t in
-    let other = turn_base path (record t { member = d }) in
-    let bases = turn_base-alike path t d h in
-    let stands = frame_at-alike base other f g bases k in
+iteration_frame-member : (path : Option (List Text)) (names : Binding) (t : Iteration) (d : Data) (f g : Frame) → AreAlike t.member d
+    → AreAlikeFrames f g → AreAlikeFrames (iteration_frame path names t f) (iteration_frame path names (record t { member = d }) g)
+iteration_frame-member path names t d f g h k =
+    let base = iteration_base path t in
+    let other = iteration_base path (record t { member = d }) in
+    let bases = iteration_base-alike path t d h in
+    let at_base = frame_at-alike base other f g bases k in
     record {
-      base_path = stands.base_path;
-      base_value = stands.base_value;
-      bound = bound_in_turn-alike names (bound_base base) (bound_base other) (turn_key t) (bound_base-alike base other bases);
-      variable = turn_variables-alike t f.variable g.variable k.variable;
-      partial = stands.partial;
+      base_path = at_base.base_path;
+      base_value = at_base.base_value;
+      bound = bound_in_iteration-alike names (bound_base base) (bound_base other) (iteration_key t) (bound_base-alike base other bases);
+      variable = iteration_variables-alike t f.variable g.variable k.variable;
+      partial = at_base.partial;
     }
 
-pub turn_frame-alike : (path : Option (List Text)) (names : Binding) (t u : Turn) (f g : Frame) → AreAlikeTurns t u
-    → AreAlikeFrames f g → AreAlikeFrames (turn_frame path names t f) (turn_frame path names u g)
-turn_frame-alike path names t u f g h k =
-    subst (λ (z : Turn). AreAlikeFrames (turn_frame path names t f) (turn_frame path names z g)) (sym h.1)
-    (turn_frame-member path names t h.0 f g h.2 k)
+pub iteration_frame-alike : (path : Option (List Text)) (names : Binding) (t u : Iteration) (f g : Frame) → AreAlikeIterations t u
+    → AreAlikeFrames f g → AreAlikeFrames (iteration_frame path names t f) (iteration_frame path names u g)
+iteration_frame-alike path names t u f g h k =
+    subst (λ (z : Iteration). AreAlikeFrames (iteration_frame path names t f) (iteration_frame path names z g)) (sym h.1)
+    (iteration_frame-member path names t h.0 f g h.2 k)
 
-pub with_block-alike : (base other : Base) (names : Binding) (f g : Text → Option Data) → AreAlikeBases base other
-    → AreAlikeMaps AreAlike f g → AreAlikeFrames (with_block base names f) (with_block other names g)
-with_block-alike base other names f g h k =
-    let stands = frame_at-alike base other empty_frame empty_frame h empty_frame-alike in
+pub with_frame-alike : (base other : Base) (names : Binding) (f g : Text → Option Data) → AreAlikeBases base other
+    → AreAlikeMaps AreAlike f g → AreAlikeFrames (with_frame base names f) (with_frame other names g)
+with_frame-alike base other names f g h k =
+    let at_base = frame_at-alike base other empty_frame empty_frame h empty_frame-alike in
     record {
-      base_path = stands.base_path;
-      base_value = stands.base_value;
+      base_path = at_base.base_path;
+      base_value = at_base.base_value;
       bound = bind_one-alike (single_name names) (bound_base base) (bound_base other) (bound_base-alike base other h);
       variable = k;
-      partial = stands.partial;
+      partial = at_base.partial;
     }
 
--- ---- the block of an inclusion without pairs
+-- ---- the scope frame of an inclusion without hash arguments
 
-AreAlikeLists-nil : (xs ys : List (Text × PathAndData)) → AreAlikeLists AreAlikePairs xs ys → xs ≡ [] → ys ≡ []
+AreAlikeLists-nil : (xs ys : List (Text × PathAndData)) → AreAlikeLists AreAlikeHash xs ys → xs ≡ [] → ys ≡ []
 AreAlikeLists-nil [] [] h is = refl
 AreAlikeLists-nil (x ∷ xs) (y ∷ ys) h is = cc
 AreAlikeLists-nil xs ys h is = absurd h
 
-inclusion_block-lone : (d e : Data) (xs ys : List (Text × PathAndData)) (f g : Text → Option Data) → AreAlike d e → xs ≡ []
+inclusion_frame-lone : (d e : Data) (xs ys : List (Text × PathAndData)) (f g : Text → Option Data) → AreAlike d e → xs ≡ []
     → ys ≡ [] → AreAlikeMaps AreAlike f g
-    → AreAlikeFrames (inclusion_block d (pair_values xs) f) (inclusion_block e (pair_values ys) g)
-inclusion_block-lone d e [] [] f g h i j k =
+    → AreAlikeFrames (inclusion_frame d (hash_data xs) f) (inclusion_frame e (hash_data ys) g)
+inclusion_frame-lone d e [] [] f g h i j k =
     record { base_path = refl; base_value = h; bound = λ n. tt; variable = k; partial = λ n. refl }
-inclusion_block-lone d e (x ∷ xs) ys f g h i j k = cc
-inclusion_block-lone d e [] (y ∷ ys) f g h i j k = cc
+inclusion_frame-lone d e (x ∷ xs) ys f g h i j k = cc
+inclusion_frame-lone d e [] (y ∷ ys) f g h i j k = cc
 
-pub inclusion_block-alike : (d e : Data) (xs ys : List (Text × PathAndData)) (f g : Text → Option Data) → AreAlike d e
-    → xs ≡ [] → AreAlikeLists AreAlikePairs xs ys → AreAlikeMaps AreAlike f g
-    → AreAlikeFrames (inclusion_block d (pair_values xs) f) (inclusion_block e (pair_values ys) g)
-inclusion_block-alike d e xs ys f g h is pairs k =
-    inclusion_block-lone d e xs ys f g h is (AreAlikeLists-nil xs ys pairs is) k
+pub inclusion_frame-alike : (d e : Data) (xs ys : List (Text × PathAndData)) (f g : Text → Option Data) → AreAlike d e
+    → xs ≡ [] → AreAlikeLists AreAlikeHash xs ys → AreAlikeMaps AreAlike f g
+    → AreAlikeFrames (inclusion_frame d (hash_data xs) f) (inclusion_frame e (hash_data ys) g)
+inclusion_frame-alike d e xs ys f g h is hash k =
+    inclusion_frame-lone d e xs ys f g h is (AreAlikeLists-nil xs ys hash is) k
 
--- ---- a partial of a block
+-- ---- a partial of a scope frame
 
 pub with_partial-alike : (name : Text) (t : Tree) (f g : Frame) → AreAlikeFrames f g
     → AreAlikeFrames (with_partial name t f) (with_partial name t g)
@@ -156,7 +156,7 @@ with_partial-alike name t f g h = record {
   partial = λ n. ap (λ (o : Option Tree). cond (bytes_eq name n) (Some t) o) (h.partial n);
 }
 
--- ---- lists of blocks
+-- ---- lists of scope frames
 
 pub outer_frames-alike : (fs gs : List Frame) → AreAlikeLists AreAlikeFrames fs gs
     → AreAlikeLists AreAlikeFrames (outer_frames fs) (outer_frames gs)

@@ -4,7 +4,7 @@ pub mod Asked
 pub mod Calls
 pub mod Choices
 pub mod Decorators
-pub mod Deeds
+pub mod Actions
 pub mod Elements
 pub mod Examples
 pub mod FixedMarkup
@@ -18,7 +18,7 @@ pub mod Targets
 pub mod TwoSettings
 pub mod Values
 pub mod Views
-pub mod Ways
+pub mod Resolutions
 pub mod Empty
 pub mod Faults
 pub mod Finding

@@ -1,19 +1,19 @@
--- The marks of texts, and what of what is put is the template's own.
+-- The marks of texts, and what of a text that is put comes from templates.
 use Rattle.std.proofs.Common.{◌≡◌, ℕ, Bool, true, false, List, [], ◌∷◌, ◌++◌, Option, None, Some, unwrap_or, if◌then◌else◌, refl, sym, ap, ap₂, ◌∙◌, append_assoc, append-nil}
 use Rattle.std.proofs.lemmas.Bool.{ne_eqb}
 use Rattle.std.proofs.lemmas.List.Elements.{filter-append}
 use Rattle.handlebars_base.specs.Bytes.{Text}
 use Rattle.handlebars_base.specs.Escape.{escaped_byte, escaped}
+use Rattle.handlebars_base.specs.EscapeLaws.{is_mark, marks_in}
 use Rattle.handlebars_base.proofs.EscapedBytes.{IsOther, by_bytes, escaped_byte-other}
 use Rattle.handlebars_scope.specs.Indentation.{lines_of, between, indented, takes_indent, indent_before, written_in}
 use Rattle.handlebars_scope.specs.LineState.{LineState}
 use Rattle.handlebars_scope.proofs.Indents.{indented-none}
-use Rattle.handlebars_meaning.specs.Inclusion.{joined_indent}
-use Rattle.handlebars_meaning.specs.Pieces.{Origin, of_text, of_value, of_raw, of_word, of_step, of_indent, site_of, Piece, join, pieces_of, indent_pieces, pieces_between, pieces_before, put}
-use Rattle.handlebars_meaning.proofs.Pieces.{join-put}
-use Rattle.handlebars_meaning.proofs.Runs.{join-append}
+use Rattle.handlebars_semantics.specs.Inclusion.{joined_indent}
+use Rattle.handlebars_semantics.specs.Pieces.{Origin, of_text, of_value, of_raw, of_boolean_text, of_step, of_indent, occurrence_of, Piece, join, pieces_of, indent_pieces, pieces_between, pieces_before, put}
+use Rattle.handlebars_semantics.proofs.Pieces.{join-put}
+use Rattle.handlebars_semantics.proofs.Runs.{join-append}
 use Rattle.handlebars_laws.proofs.RunStates.{joined_indent-own}
-use Rattle.handlebars_markup.specs.Blind.{is_mark, marks_in}
 use Rattle.handlebars_markup.specs.TwoRuns.{fixed_text, fixed_texts, HaveSameMarkup}
 
 -- ---- marks
@@ -75,23 +75,23 @@ marks_in-put : (o : Origin) (indent : Option Text) (t : Text) (line : LineState)
 marks_in-put o indent t line none =
     ap marks_in (join-put o indent t line) ∙ marks_in-written (unwrap_or indent []) line t none
 
--- ---- what of it is the template's own
+-- ---- what of it comes from templates
 
 fixed_text-nil : (o : Origin) → fixed_text o [] ≡ []
-fixed_text-nil (of_text site) = refl
-fixed_text-nil (of_value site found) = refl
-fixed_text-nil (of_raw site found) = refl
-fixed_text-nil (of_word site b) = refl
-fixed_text-nil (of_step site i) = refl
-fixed_text-nil (of_indent site) = refl
+fixed_text-nil (of_text occurrence) = refl
+fixed_text-nil (of_value occurrence found) = refl
+fixed_text-nil (of_raw occurrence found) = refl
+fixed_text-nil (of_boolean_text occurrence b) = refl
+fixed_text-nil (of_step occurrence i) = refl
+fixed_text-nil (of_indent occurrence) = refl
 
 fixed_text-append : (o : Origin) (t u : Text) → fixed_text o (t ++ u) ≡ fixed_text o t ++ fixed_text o u
-fixed_text-append (of_text site) t u = refl
-fixed_text-append (of_value site found) t u = refl
-fixed_text-append (of_raw site found) t u = refl
-fixed_text-append (of_word site b) t u = refl
-fixed_text-append (of_step site i) t u = refl
-fixed_text-append (of_indent site) t u = refl
+fixed_text-append (of_text occurrence) t u = refl
+fixed_text-append (of_value occurrence found) t u = refl
+fixed_text-append (of_raw occurrence found) t u = refl
+fixed_text-append (of_boolean_text occurrence b) t u = refl
+fixed_text-append (of_step occurrence i) t u = refl
+fixed_text-append (of_indent occurrence) t u = refl
 
 fixed_texts-append : (ps qs : List Piece) → fixed_texts (ps ++ qs) ≡ fixed_texts ps ++ fixed_texts qs
 fixed_texts-append [] qs = refl
@@ -99,7 +99,7 @@ fixed_texts-append (p ∷ ps) qs =
     ap (λ (z : Text). fixed_text p.origin p.text ++ z) (fixed_texts-append ps qs)
     ∙ sym (append_assoc (fixed_text p.origin p.text) (fixed_texts ps) (fixed_texts qs))
 
-fixed_texts-indent : (o : Origin) (t : Text) → fixed_texts (pieces_of (of_indent (site_of o)) t) ≡ []
+fixed_texts-indent : (o : Origin) (t : Text) → fixed_texts (pieces_of (of_indent (occurrence_of o)) t) ≡ []
 fixed_texts-indent o [] = refl
 fixed_texts-indent o (b ∷ t) = refl
 
@@ -145,8 +145,8 @@ HaveSameMarkup-append ps xs qs ys h k = record {
     joined : (us vs : List Piece) → marks_in (join (us ++ vs)) ≡ marks_in (join us) ++ marks_in (join vs)
     joined us vs = ap marks_in (join-append us vs) ∙ marks_in-append (join us) (join vs)
 
--- Texts with the same marks, of which as much is the template's own, are put so that their pieces have the same markup,
--- whatever the lines.
+-- If texts have the same marks, and the same part of them comes from templates, they are put so that their pieces have the
+-- same markup, whatever the lines.
 pub HaveSameMarkup-put : (o x : Origin) (i j : Option Text) (t u : Text) (line other : LineState) → i ≡ j
     → marks_in (unwrap_or i []) ≡ [] → marks_in t ≡ marks_in u → fixed_text o t ≡ fixed_text x u
     → HaveSameMarkup (put o i t line).0 (put x j u other).0

@@ -1,5 +1,5 @@
--- What a call calls in alike states, and the view that this is shown. A section calls by the kind of its value, and alike
--- values are of one kind.
+-- What a call calls in states that are equal up to texts, and the view that the callee is shown. A section calls by the kind of
+-- its value, and values that are equal up to texts are of one kind.
 use Rattle.std.proofs.Common.{◌≡◌, Bool, true, false, ◌&&◌, Option, None, Some, refl, ap, subst}
 use Rattle.serde_json.specs.Data.{Data, null, boolean, number, string, array, object}
 use Rattle.handlebars_base.specs.Answers.{gives}
@@ -11,11 +11,11 @@ use Rattle.handlebars_base.specs.Scoped.{Found, data_in}
 use Rattle.handlebars_template.specs.Tree.{Call, call_name, is_value, Param, name, path, literal, subexpression}
 use Rattle.handlebars_helpers.specs.CallView.{CallView}
 use Rattle.handlebars_helpers.specs.Callee.{built, Target, calls_registered}
-use Rattle.handlebars_meaning.specs.Asks.{Asks, only, ◌>>=◌}
-use Rattle.handlebars_meaning.specs.Questions.{HasCalled, IsAnswered, called_as}
-use Rattle.handlebars_meaning.specs.Sections.{section_kind, section_call, without_helper, ReadsAsPath, reads, reads_not, HasSectionPath, HasSection, HasSectionIf}
-use Rattle.handlebars_meaning.specs.State.{Setting, State, helper_for}
-use Rattle.handlebars_meaning.specs.Values.{path_value}
+use Rattle.handlebars_semantics.specs.Asks.{Asks, only, ◌>>=◌}
+use Rattle.handlebars_semantics.specs.Questions.{HasCalled, IsAnswered, called_as}
+use Rattle.handlebars_semantics.specs.Sections.{section_kind, section_call, without_helper, ReadsAsPath, reads, reads_not, HasSectionPath, HasSection, HasSectionIf}
+use Rattle.handlebars_semantics.specs.State.{Setting, State, helper_for}
+use Rattle.handlebars_semantics.specs.Values.{path_value}
 use Rattle.handlebars_markup.specs.Alike.{AreAlike}
 use Rattle.handlebars_markup.specs.Blind.{is_blind, calls_blind}
 use Rattle.handlebars_markup.specs.TwoRuns.{registrations}
@@ -27,7 +27,7 @@ use Rattle.handlebars_markup.proofs.TwoSettings.{HasTwin, twin}
 use Rattle.handlebars_markup.proofs.Values.{data_in-alike}
 use Rattle.handlebars_markup.proofs.Views.{path_value-alike}
 
--- the same is called, which is blind, and is shown alike views
+-- the same is called, it is blind, and it is shown views that are equal up to texts
 abbrev pub AreAlikeCalls : Target × CallView → Target × CallView → Type 0
 AreAlikeCalls x y = IsSameTarget x.0 y.0 × AreAlikeViews x.1 y.1
 
@@ -67,7 +67,7 @@ module _ (v u : CallView) (views : AreAlikeViews v u) where
       ap (λ z. calls_registered (built z)) (section_kind-alike (data_in x) (data_in y) (data_in-alike x y k)),
       section_kind-blind (data_in x),
     ),
-    record { name = views.name; params = (record { path = refl; found = k }, tt); pairs = views.pairs },
+    record { name = views.name; params = (record { path = refl; found = k }, tt); hash = views.hash },
   )
 
   -- Its path is of its name alone.
@@ -115,7 +115,7 @@ module _ (p : Setting) (w : HasTwin p) (s t : State) (h : AreAlikeStates (regist
   HasCalled-alike block c None blind = HasSectionIf-alike (p.parts.sections && (block && is_value c)) (call_name c)
   HasCalled-alike block c (Some k) blind = only-answered AreAlikeCalls (gives (k, v)) (gives (k, u)) ((refl, blind), views)
 
-  -- Where what stands under the name is blind, if anything does, the same is called.
+  -- If what is registered under the name is blind, or nothing is registered under it, the same is called.
   pub called_as-alike : (block : Bool) (c : Call) → calls_blind (registrations p.parts) v.name ≡ true
       → AreAnswered AreAlikeCalls (IsAnswered p s (called_as block c v)) (IsAnswered (twin p w) t (called_as block c u))
   called_as-alike block c is =

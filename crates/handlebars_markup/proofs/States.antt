@@ -1,42 +1,43 @@
--- States of two runs over data that differs in texts alone, and what changes them alike.
+-- States of two runs over data that is equal up to texts, and what changes them equally.
 use Rattle.std.proofs.Common.{◌≡◌, ℕ, ◌+◌, Bool, true, false, List, [], ◌∷◌, Option, None, Some, cond, unwrap_or, refl, sym, ap, ◌∙◌, subst}
 use Rattle.std.specs.List.{AllByRecursion}
 use Rattle.std.specs.Str.{bytes_eq}
 use Rattle.serde_json.specs.Data.{Data}
 use Rattle.handlebars_base.specs.Bytes.{Text}
+use Rattle.handlebars_base.specs.EscapeLaws.{marks_in}
 use Rattle.handlebars_template.specs.Tree.{Tree, Binding}
 use Rattle.handlebars_scope.specs.Resolve.{or_else}
 use Rattle.handlebars_scope.specs.Scopes.{Frame, empty_frame, Base, at_path, at_value, frame_at}
 use Rattle.handlebars_helpers.specs.Callee.{LocalHelper}
-use Rattle.handlebars_helpers.specs.OwnAnswers.{Registrations}
-use Rattle.handlebars_helpers.specs.Turns.{Turn, turn_base, turn_frame, with_block}
-use Rattle.handlebars_meaning.specs.Inclusion.{newest, begin_inclusion, named_as_before, end_inclusion}
-use Rattle.handlebars_meaning.specs.Pieces.{Piece}
-use Rattle.handlebars_meaning.specs.State.{KeptBlocks, State, first_state, push_frame, outer_frames, pop_frame, nearest_as, with_nearest, partial_in, with_partial}
+use Rattle.handlebars_helpers.specs.UserAnswers.{Registrations}
+use Rattle.handlebars_helpers.specs.Iterations.{Iteration, iteration_base, iteration_frame, with_frame}
+use Rattle.handlebars_semantics.specs.Inclusion.{newest, begin_inclusion, named_as_before, end_inclusion}
+use Rattle.handlebars_semantics.specs.Pieces.{Piece}
+use Rattle.handlebars_semantics.specs.State.{CapturedBlocks, State, first_state, push_frame, outer_frames, pop_frame, nearest_as, with_nearest, partial_in, with_partial}
 use Rattle.handlebars_laws.proofs.RunStates.{None≢Some, Some-injective}
 use Rattle.handlebars_markup.specs.Alike.{AreAlike}
-use Rattle.handlebars_markup.specs.Blind.{marks_in, IsBlindTree}
+use Rattle.handlebars_markup.specs.Blind.{IsBlindTree}
 use Rattle.handlebars_markup.specs.TwoRuns.{HaveSameMarkup}
 use Rattle.handlebars_markup.proofs.Alikeness.{AreAlikeOptions, AreAlikeLists, AreAlikeFrames}
 use Rattle.handlebars_markup.proofs.Frames.{empty_frame-alike, outer_frames-alike, nearest_as-alike}
 
--- what is kept alike: pieces with the same markup, or none
-abbrev pub AreAlikeKept : Option (List Piece) → Option (List Piece) → Type 0
-AreAlikeKept = AreAlikeOptions HaveSameMarkup
+-- what is captured in both: pieces with the same markup, or none
+abbrev pub AreAlikeCaptured : Option (List Piece) → Option (List Piece) → Type 0
+AreAlikeCaptured = AreAlikeOptions HaveSameMarkup
 
-pub newest-alike : (ks ls : KeptBlocks) → AreAlikeLists AreAlikeKept ks ls → AreAlikeKept (newest ks) (newest ls)
+pub newest-alike : (ks ls : CapturedBlocks) → AreAlikeLists AreAlikeCaptured ks ls → AreAlikeCaptured (newest ks) (newest ls)
 newest-alike [] [] h = tt
 newest-alike (k ∷ ks) (l ∷ ls) h = h.0
 newest-alike ks ls h = absurd h
 
 module _ (r : Registrations) where
-  -- a block of scope whose partials are blind
+  -- a scope frame whose partials are blind
   abbrev pub IsBlindFrame : Frame → Type 0
   IsBlindFrame f = (n : Text) (t : Tree) → f.partial n ≡ Some t → IsBlindTree r t
 
   -- Of the fields of two states. Their lines may differ: they say where indentation goes, and that has no marks.
   pub record HaveAlikeFields (c c' : Option Text) (fs gs : List Frame) (b b' e e' : Bool) (i i' : Option Text)
-      (ks ks' : KeptBlocks) (n n' : ℕ) (d d' : Option Data) (l l' : Text → Option LocalHelper) : Type 0 where
+      (ks ks' : CapturedBlocks) (n n' : ℕ) (d d' : Option Data) (l l' : Text → Option LocalHelper) : Type 0 where
     pub current : c ≡ c'
     pub blocks : AreAlikeLists AreAlikeFrames fs gs
     pub partials : AllByRecursion IsBlindFrame fs
@@ -45,7 +46,7 @@ module _ (r : Registrations) where
     pub escapes_too : e' ≡ true
     pub indent : i ≡ i'
     pub unmarked : marks_in (unwrap_or i []) ≡ []
-    pub kept : AreAlikeLists AreAlikeKept ks ks'
+    pub captured : AreAlikeLists AreAlikeCaptured ks ks'
     pub inclusions : n ≡ n'
     pub changed : AreAlikeOptions AreAlike d d'
     pub no_local : (name : Text) → l name ≡ None
@@ -54,7 +55,7 @@ module _ (r : Registrations) where
   abbrev pub AreAlikeStates : State → State → Type 0
   AreAlikeStates s t =
       HaveAlikeFields s.current t.current s.blocks t.blocks s.recursive t.recursive s.escapes t.escapes s.indent t.indent
-      s.kept t.kept s.inclusions t.inclusions s.changed t.changed s.local t.local
+      s.captured t.captured s.inclusions t.inclusions s.changed t.changed s.local t.local
 
   pub first_state-alike : (recursive : Bool) → AreAlikeStates (first_state recursive) (first_state recursive)
   first_state-alike recursive = record {
@@ -66,7 +67,7 @@ module _ (r : Registrations) where
     escapes_too = refl;
     indent = refl;
     unmarked = refl;
-    kept = tt;
+    captured = tt;
     inclusions = refl;
     changed = tt;
     no_local = λ n. refl;
@@ -75,7 +76,7 @@ module _ (r : Registrations) where
 
   -- ---- partials
 
-  -- a block's partials don't depend on where it stands
+  -- a scope frame's partials don't depend on where it is
   frame_at-partial : (base : Base) (f : Frame) (n : Text) → (frame_at base f).partial n ≡ f.partial n
   frame_at-partial (at_path path) f n = refl
   frame_at-partial (at_value d) f n = refl
@@ -83,13 +84,13 @@ module _ (r : Registrations) where
   pub empty_frame-blind : IsBlindFrame empty_frame
   empty_frame-blind = λ n t is. None≢Some is
 
-  pub turn_frame-blind : (path : Option (List Text)) (b : Binding) (t : Turn) (f : Frame) → IsBlindFrame f
-      → IsBlindFrame (turn_frame path b t f)
-  turn_frame-blind path b t f h = λ n x is. h n x (sym (frame_at-partial (turn_base path t) f n) ∙ is)
+  pub iteration_frame-blind : (path : Option (List Text)) (b : Binding) (t : Iteration) (f : Frame) → IsBlindFrame f
+      → IsBlindFrame (iteration_frame path b t f)
+  iteration_frame-blind path b t f h = λ n x is. h n x (sym (frame_at-partial (iteration_base path t) f n) ∙ is)
 
-  pub with_block-blind : (base : Base) (b : Binding) (variables : Text → Option Data)
-      → IsBlindFrame (with_block base b variables)
-  with_block-blind base b variables = λ n x is. None≢Some (sym (frame_at-partial base empty_frame n) ∙ is)
+  pub with_frame-blind : (base : Base) (b : Binding) (variables : Text → Option Data)
+      → IsBlindFrame (with_frame base b variables)
+  with_frame-blind base b variables = λ n x is. None≢Some (sym (frame_at-partial base empty_frame n) ∙ is)
 
   put_at-blind : (b : Bool) (x : Tree) (o : Option Tree) (t : Tree) → IsBlindTree r x
       → (o ≡ Some t → IsBlindTree r t) → cond b (Some x) o ≡ Some t → IsBlindTree r t
@@ -120,7 +121,7 @@ module _ (r : Registrations) where
   nearest_as-blind x [] k h = tt
   nearest_as-blind x (f ∷ fs) k h = (k f h.0, h.1)
 
-  -- ---- changes of the blocks
+  -- ---- changes of the scope frames
 
   with_blocks : (s t : State) (fs gs : List Frame) → AreAlikeStates s t → AreAlikeLists AreAlikeFrames fs gs
       → AllByRecursion IsBlindFrame fs → AreAlikeStates (record s { blocks = fs }) (record t { blocks = gs })
@@ -133,7 +134,7 @@ module _ (r : Registrations) where
     escapes_too = h.escapes_too;
     indent = h.indent;
     unmarked = h.unmarked;
-    kept = h.kept;
+    captured = h.captured;
     inclusions = h.inclusions;
     changed = h.changed;
     no_local = h.no_local;
@@ -167,7 +168,7 @@ module _ (r : Registrations) where
     escapes_too = h.escapes_too;
     indent = h.indent;
     unmarked = h.unmarked;
-    kept = h.kept;
+    captured = h.captured;
     inclusions = h.inclusions;
     changed = h.changed;
     no_local = h.no_local;
@@ -185,7 +186,7 @@ module _ (r : Registrations) where
     escapes_too = k.escapes_too;
     indent = h.indent;
     unmarked = h.unmarked;
-    kept = k.kept;
+    captured = k.captured;
     inclusions = k.inclusions;
     changed = k.changed;
     no_local = k.no_local;
@@ -193,7 +194,7 @@ module _ (r : Registrations) where
   }
 
   pub begin_inclusion-alike : (s t : State) (i j : Option Text) (k l : Option (List Piece)) → AreAlikeStates s t → i ≡ j
-      → marks_in (unwrap_or i []) ≡ [] → AreAlikeKept k l → AreAlikeStates (begin_inclusion i k s) (begin_inclusion j l t)
+      → marks_in (unwrap_or i []) ≡ [] → AreAlikeCaptured k l → AreAlikeStates (begin_inclusion i k s) (begin_inclusion j l t)
   begin_inclusion-alike s t i j k l h is unmarked same = record {
     current = h.current;
     blocks = h.blocks;
@@ -203,7 +204,7 @@ module _ (r : Registrations) where
     escapes_too = h.escapes_too;
     indent = is;
     unmarked = unmarked;
-    kept = (same, h.kept);
+    captured = (same, h.captured);
     inclusions = ap (λ n. n + 1) h.inclusions;
     changed = h.changed;
     no_local = h.no_local;
@@ -221,7 +222,7 @@ module _ (r : Registrations) where
     escapes_too = k.escapes_too;
     indent = h.indent;
     unmarked = h.unmarked;
-    kept = h.kept;
+    captured = h.captured;
     inclusions = h.inclusions;
     changed = k.changed;
     no_local = k.no_local;

@@ -1,6 +1,6 @@
--- What calls call in alike states: the same, and it is blind.
+-- What calls call in states that are equal up to texts: the same, and it is blind.
 use Rattle.std.proofs.Common.{◌≡◌, Bool, true, false, Option, None, Some, option_map, if◌then◌else◌, refl, sym, ap, ◌∙◌, subst}
-use Rattle.handlebars_base.specs.Answers.{gives, refuses_for}
+use Rattle.handlebars_base.specs.Answers.{gives, fails_for}
 use Rattle.handlebars_base.specs.Bytes.{Text}
 use Rattle.handlebars_base.specs.Optional.{with_or}
 use Rattle.handlebars_base.specs.Reasons.{decorator_not_found, missing_variable}
@@ -9,14 +9,14 @@ use Rattle.handlebars_template.specs.Tree.{Param, as_name}
 use Rattle.handlebars_scope.specs.Resolve.{or_else}
 use Rattle.handlebars_helpers.specs.Callee.{Callee, Target, calls_registered, calls_local}
 use Rattle.handlebars_helpers.specs.Decoration.{DecoratorKind}
-use Rattle.handlebars_meaning.specs.Questions.{decorator_or_refusal, hook_or_refusal}
-use Rattle.handlebars_meaning.specs.State.{Parts, State, hook, registered_target, helper_named, helper_for}
+use Rattle.handlebars_semantics.specs.Questions.{decorator_or_refusal, hook_or_refusal}
+use Rattle.handlebars_semantics.specs.State.{Parts, State, hook, registered_target, helper_named, helper_for}
 use Rattle.handlebars_markup.specs.Blind.{is_blind_callee, is_blind_decorator, calls_blind, decorates_blind, HasBlindParts}
 use Rattle.handlebars_markup.specs.TwoRuns.{registrations}
 use Rattle.handlebars_markup.proofs.Alikeness.{AreAlikeAnswers}
 use Rattle.handlebars_markup.proofs.States.{AreAlikeStates}
 
--- what is registered and blind, if anything is there
+-- what is registered is blind, if anything is
 abbrev pub IsBlindTarget : Option Target → Type 0
 IsBlindTarget None = Unit {0}
 IsBlindTarget (Some (calls_registered k)) = is_blind_callee k ≡ true
@@ -77,8 +77,8 @@ pub hook_or_refusal-alike : (p : Parts) → HasBlindParts (registrations p) → 
 hook_or_refusal-alike p blind q = by p.strict
   where
     by : (b : Bool) → AreAlikeAnswers AreSameTargets
-        (if b then refuses_for (missing_variable (as_name q)) else gives (registered_target p (hook false)))
-        (if b then refuses_for (missing_variable (as_name q)) else gives (registered_target p (hook false)))
+        (if b then fails_for (missing_variable (as_name q)) else gives (registered_target p (hook false)))
+        (if b then fails_for (missing_variable (as_name q)) else gives (registered_target p (hook false)))
     by true = refl
     by false = (refl, registered_target-blind p (hook false) (blind.hooks false))
 

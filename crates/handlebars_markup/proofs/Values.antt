@@ -1,4 +1,4 @@
--- What is read of alike values is alike.
+-- What is read of values that are equal up to texts is equal up to texts.
 use Rattle.std.proofs.Common.{◌≡◌, ℕ, zero, suc, Bool, true, false, List, [], ◌∷◌, Option, None, Some, option_map, unwrap_or, cond, if◌then◌else◌, not, length, refl, ap, sym, ◌∙◌, subst}
 use Rattle.std.proofs.Math.Dec.{eqb-suc-zero}
 use Rattle.std.specs.List.{slice_get}
@@ -8,7 +8,7 @@ use Rattle.std.specs.declared.cmp.Ordering.{Ordering}
 use Rattle.std.specs.declared.cmp.Ordering.TheVariants.{Less, Equal, Greater}
 use Rattle.serde_json.specs.Data.{Data, null, boolean, number, string, array, object, Items, no_items, item, Members, no_members, member}
 use Rattle.serde_json.specs.Find.{get_item, get_member}
-use Rattle.handlebars_base.specs.Answers.{Answer, gives, refuses, answer_map}
+use Rattle.handlebars_base.specs.Answers.{Answer, gives, fails, answer_map}
 use Rattle.handlebars_base.specs.Bytes.{Text}
 use Rattle.handlebars_base.specs.Optional.{with_or}
 use Rattle.handlebars_base.specs.Scoped.{Found, walked, value, missing, data_in}
@@ -17,7 +17,7 @@ use Rattle.handlebars_scope.specs.Resolve.{index_of, item_at, member_at, then_at
 use Rattle.handlebars_markup.specs.Alike.{AreAlikeTexts, AreAlike, AreAlikeItems, AreAlikeMembers}
 use Rattle.handlebars_markup.proofs.Alikeness.{AreAlikeOptions, AreAlikeLists, AreAlikeAnswers, AreAlikeFound}
 
--- ---- a value is alike to itself
+-- ---- a value is equal to itself up to texts
 
 AreAlikeTexts-self : (t : Text) → AreAlikeTexts t t
 AreAlikeTexts-self [] = tt
@@ -86,7 +86,7 @@ module _ {A B C D : Type 0} (R : A → B → Type 0) (S : C → D → Type 0) wh
   pub answer_map-alike : (a : Answer A) (b : Answer B) (f : A → C) (g : B → D) → AreAlikeAnswers R a b
       → ((x : A) (y : B) → R x y → S (f x) (g y)) → AreAlikeAnswers S (answer_map f a) (answer_map g b)
   answer_map-alike (gives x) (gives y) f g h k = k x y h
-  answer_map-alike (refuses r) (refuses q) f g h k = h
+  answer_map-alike (fails r) (fails q) f g h k = h
   answer_map-alike a b f g h k = absurd h
 
 -- ---- truth
@@ -155,7 +155,7 @@ then_at-alike : (a b : Answer (Option Data)) (f g : Data → Answer (Option Data
     → AreAlikeAnswers (AreAlikeOptions AreAlike) (then_at a f) (then_at b g)
 then_at-alike (gives (Some d)) (gives (Some e)) f g h k = k d e h
 then_at-alike (gives None) (gives None) f g h k = tt
-then_at-alike (refuses r) (refuses q) f g h k = h
+then_at-alike (fails r) (fails q) f g h k = h
 then_at-alike a b f g h k = absurd h
 
 pub value_at-alike : (names : List Text) (d e : Data) → AreAlike d e

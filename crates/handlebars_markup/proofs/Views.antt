@@ -1,8 +1,8 @@
--- Parameters and calls have alike values and views in alike states.
+-- Parameters and calls have values and views that are equal up to texts, in states that are.
 use Rattle.std.proofs.Common.{◌≡◌, Bool, true, false, List, [], ◌∷◌, Option, None, Some, refl, ap, subst}
 use Rattle.std.specs.List.{slice_get}
 use Rattle.serde_json.specs.Data.{Data}
-use Rattle.handlebars_base.specs.Answers.{Answer, gives, refuses, answer_map}
+use Rattle.handlebars_base.specs.Answers.{Answer, gives, fails, answer_map}
 use Rattle.handlebars_base.specs.Bytes.{Text}
 use Rattle.handlebars_base.specs.Path.{Reference, raw_of}
 use Rattle.handlebars_base.specs.PathAndData.{PathAndData}
@@ -10,42 +10,42 @@ use Rattle.handlebars_base.specs.Reasons.{helper_not_found}
 use Rattle.handlebars_base.specs.RenderRefusals.{plain_refusal}
 use Rattle.handlebars_base.specs.Scoped.{Found, walked, value, missing}
 use Rattle.handlebars_base.specs.Values.{rendered}
-use Rattle.handlebars_template.specs.Tree.{Element, raw_string, html_expression, expression, helper_block, decorator_expression, decorator_block, partial_expression, partial_block, comment, call, Args, args, args_params, args_pairs, Param, name, path, literal, subexpression, Params, no_params, param, Pairs, no_pairs, pair, lacks_pairs, Binding, no_body}
+use Rattle.handlebars_template.specs.Tree.{Element, raw_string, html_expression, escaped_expression, helper_block, decorator_expression, decorator_block, partial_expression, partial_block, comment, call, Args, args, args_params, args_hash, Param, name, path, literal, subexpression, Params, no_params, param, Hash, no_hash, hash_pair, lacks_hash, Binding, no_body}
 use Rattle.handlebars_scope.specs.Resolve.{resolve}
 use Rattle.handlebars_helpers.specs.CallView.{CallView}
-use Rattle.handlebars_helpers.specs.Callee.{built, own, Target, calls_registered, calls_local}
-use Rattle.handlebars_helpers.specs.Choice.{Choice, the_body, the_inverse, body_in_block, body_in_turns, the_value, the_word, nothing, built_in_choice}
-use Rattle.handlebars_meaning.specs.Asks.{Asks, only}
-use Rattle.handlebars_meaning.specs.State.{Setting, State, data_at, helper_for}
-use Rattle.handlebars_meaning.specs.Values.{is_literal, as_written, view_without_bodies, choice_value, HasHelpedValue, without_path, as_read, path_value, is_written, is_viewed, HasValue, HasInnerValue, HasName, HaveValues, PairsHaveValues, HasView}
+use Rattle.handlebars_helpers.specs.Callee.{built, user, Target, calls_registered, calls_local}
+use Rattle.handlebars_helpers.specs.Choice.{Choice, the_body, the_inverse, body_in_block, body_in_iterations, the_value, the_boolean, nothing, built_in_choice}
+use Rattle.handlebars_semantics.specs.Asks.{Asks, only}
+use Rattle.handlebars_semantics.specs.State.{Setting, State, data_at, helper_for}
+use Rattle.handlebars_semantics.specs.Values.{is_literal, as_written, view_without_bodies, choice_value, HasHelpedValue, without_path, as_read, path_value, is_written, is_viewed, HasValue, HasInnerValue, HasName, HaveValues, HashHasValues, HasView}
 use Rattle.handlebars_markup.specs.Alike.{AreAlike}
-use Rattle.handlebars_markup.specs.Blind.{calls_blind, IsWritten, IsLiteralFirst, AreBlindArgs, IsBlindInner, IsBlindParam, AreBlindParams, AreBlindPairs}
+use Rattle.handlebars_markup.specs.Blind.{calls_blind, IsStaticName, IsLiteralFirst, AreBlindArgs, IsBlindInner, IsBlindParam, AreBlindParams, IsBlindHash}
 use Rattle.handlebars_markup.specs.TwoRuns.{registrations}
-use Rattle.handlebars_markup.proofs.Alikeness.{AreAlikeOptions, AreAlikeLists, AreAlikeAnswers, AreAlikeFound, AreAlikeParams, AreAlikePairs, AreAlikeViews, AreAlikeChoices}
+use Rattle.handlebars_markup.proofs.Alikeness.{AreAlikeOptions, AreAlikeLists, AreAlikeAnswers, AreAlikeFound, AreAlikeParams, AreAlikeHash, AreAlikeViews, AreAlikeChoices}
 use Rattle.handlebars_markup.proofs.Asked.{AreAnswered, only-answered, then-answered, AreAlikeAnswers-weaker, AreAnswered-weaker}
 use Rattle.handlebars_markup.proofs.Choices.{built_in_choice-alike}
 use Rattle.handlebars_markup.proofs.States.{AreAlikeStates}
 use Rattle.handlebars_markup.proofs.Targets.{IsBlindTarget, helper_for-alike}
 use Rattle.handlebars_markup.proofs.TwoSettings.{HasTwin, twin}
 use Rattle.handlebars_markup.proofs.Values.{AreAlike-self, answer_map-alike, unwrap_or-alike}
-use Rattle.handlebars_markup.proofs.Ways.{resolve-alike}
+use Rattle.handlebars_markup.proofs.Resolutions.{resolve-alike}
 
--- ---- what is told of two values, and of two views
+-- ---- what is known of two values, and of two views
 
--- alike, and the same where a literal is written
+-- equal up to texts, and equal if a literal is written
 abbrev pub AreValuesOf : Param → Found → Found → Type 0
 AreValuesOf q v w = AreAlikeFound v w × (is_literal q ≡ true → v ≡ w)
 
 abbrev pub AreWrittenOf : Param → PathAndData → PathAndData → Type 0
 AreWrittenOf q v w = AreAlikeParams v w × (is_literal q ≡ true → v ≡ w)
 
--- alike, and the first the same where a literal stands there
+-- equal up to texts, and the first equal if a literal is there
 abbrev pub AreParamsOf : Params → List PathAndData → List PathAndData → Type 0
 AreParamsOf qs vs ws = AreAlikeLists AreAlikeParams vs ws × (IsLiteralFirst qs → slice_get vs 0 ≡ slice_get ws 0)
 
--- alike, and none where none are written
-abbrev pub ArePairsOf : Pairs → List (Text × PathAndData) → List (Text × PathAndData) → Type 0
-ArePairsOf hs vs ws = AreAlikeLists AreAlikePairs vs ws × (lacks_pairs hs ≡ true → vs ≡ [])
+-- equal up to texts, and none if none are written
+abbrev pub IsHashOf : Hash → List (Text × PathAndData) → List (Text × PathAndData) → Type 0
+IsHashOf hs vs ws = AreAlikeLists AreAlikeHash vs ws × (lacks_hash hs ≡ true → vs ≡ [])
 
 -- the same name, which passes the test
 abbrev pub IsSameName : (Text → Bool) → Text → Text → Type 0
@@ -55,7 +55,7 @@ pub record AreViewsOf (test : Text → Bool) (xs : Args) (v w : CallView) : Type
   pub views : AreAlikeViews v w
   pub passes : test v.name ≡ true
   pub first : IsLiteralFirst (args_params xs) → slice_get v.params 0 ≡ slice_get w.params 0
-  pub lone : lacks_pairs (args_pairs xs) ≡ true → v.pairs ≡ []
+  pub lone : lacks_hash (args_hash xs) ≡ true → v.hash ≡ []
 
 true-not_false : {P : Type 0} → false ≡ true → P
 true-not_false is = cc
@@ -67,12 +67,12 @@ is_literal-first (literal d) qs is = refl
 is_literal-first (subexpression e) qs is = absurd is
 
 -- a name that is written is no call in parentheses
-pub IsWritten-param : (test : Text → Bool) (p : Setting) (q : Param) → IsWritten test q
+pub IsStaticName-param : (test : Text → Bool) (p : Setting) (q : Param) → IsStaticName test q
     → IsBlindParam (registrations p.parts) q
-IsWritten-param test p (name n) is = tt
-IsWritten-param test p (path r) is = tt
-IsWritten-param test p (literal d) is = tt
-IsWritten-param test p (subexpression e) is = absurd is
+IsStaticName-param test p (name n) is = tt
+IsStaticName-param test p (path r) is = tt
+IsStaticName-param test p (literal d) is = tt
+IsStaticName-param test p (subexpression e) is = absurd is
 
 -- ---- values
 
@@ -80,9 +80,9 @@ choice_value-alike : (x y : Choice) → AreAlikeChoices x y → AreAlikeFound (c
 choice_value-alike the_body the_body h = tt
 choice_value-alike the_inverse the_inverse h = tt
 choice_value-alike (body_in_block base) (body_in_block other) h = tt
-choice_value-alike (body_in_turns ns ts) (body_in_turns ms us) h = tt
+choice_value-alike (body_in_iterations ns ts) (body_in_iterations ms us) h = tt
 choice_value-alike (the_value d) (the_value e) h = h
-choice_value-alike (the_word b) (the_word c) h = h
+choice_value-alike (the_boolean b) (the_boolean c) h = h
 choice_value-alike nothing nothing h = tt
 choice_value-alike x y h = absurd h
 
@@ -110,15 +110,15 @@ is_written-alike q m n h = then-answered (AreValuesOf q) (AreWrittenOf q) m n (�
 
 is_viewed-alike : (test : Text → Bool) (xs : Args) (m m' : Asks Text) (n n' : Asks (List PathAndData))
     (o o' : Asks (List (Text × PathAndData))) → AreAnswered (IsSameName test) m m'
-    → AreAnswered (AreParamsOf (args_params xs)) n n' → AreAnswered (ArePairsOf (args_pairs xs)) o o'
+    → AreAnswered (AreParamsOf (args_params xs)) n n' → AreAnswered (IsHashOf (args_hash xs)) o o'
     → AreAnswered (AreViewsOf test xs) (is_viewed m n o) (is_viewed m' n' o')
 is_viewed-alike test xs m m' n n' o o' named valued paired =
     then-answered (IsSameName test) (AreViewsOf test xs) m m' _ _ named (λ a b e.
     then-answered (AreParamsOf (args_params xs)) (AreViewsOf test xs) n n' _ _ valued (λ vs us k.
-    then-answered (ArePairsOf (args_pairs xs)) (AreViewsOf test xs) o o' _ _ paired (λ ws zs g.
-    only-answered (AreViewsOf test xs) (gives (record { name = a; params = vs; pairs = ws }))
-    (gives (record { name = b; params = us; pairs = zs })) (record {
-      views = record { name = e.0; params = k.0; pairs = g.0 };
+    then-answered (IsHashOf (args_hash xs)) (AreViewsOf test xs) o o' _ _ paired (λ ws zs g.
+    only-answered (AreViewsOf test xs) (gives (record { name = a; params = vs; hash = ws }))
+    (gives (record { name = b; params = us; hash = zs })) (record {
+      views = record { name = e.0; params = k.0; hash = g.0 };
       passes = e.1;
       first = k.1;
       lone = g.1;
@@ -139,15 +139,15 @@ module _ (p : Setting) (w : HasTwin p) (s t : State) (h : AreAlikeStates (regist
       → AreAnswered AreAlikeFound (HasHelpedValue p s k (view_without_bodies b v))
       (HasHelpedValue (twin p w) t k (view_without_bodies b u))
   HasHelpedValue-target b v u k None blind =
-      only-answered AreAlikeFound (refuses (plain_refusal (helper_not_found v.name)))
-      (refuses (plain_refusal (helper_not_found u.name))) (ap (λ (z : Text). plain_refusal (helper_not_found z)) k.name)
+      only-answered AreAlikeFound (fails (plain_refusal (helper_not_found v.name)))
+      (fails (plain_refusal (helper_not_found u.name))) (ap (λ (z : Text). plain_refusal (helper_not_found z)) k.name)
   HasHelpedValue-target b v u k (Some (calls_registered (built kind))) blind =
       let first = built_in_choice p.parts.strict kind (view_without_bodies b v) in
       let second = built_in_choice p.parts.strict kind (view_without_bodies b u) in
       only-answered AreAlikeFound (answer_map choice_value first) (answer_map choice_value second)
       (answer_map-alike AreAlikeChoices AreAlikeFound first second choice_value choice_value
       (built_in_choice-alike p.parts.strict b no_body no_body false v u k kind blind) choice_value-alike)
-  HasHelpedValue-target b v u k (Some (calls_registered (own n))) blind = true-not_false blind
+  HasHelpedValue-target b v u k (Some (calls_registered (user n))) blind = true-not_false blind
   HasHelpedValue-target b v u k (Some (calls_local n)) blind = absurd blind
 
   HasHelpedValue-alike : (b : Binding) (v u : CallView) → AreAlikeViews v u
@@ -160,7 +160,7 @@ module _ (p : Setting) (w : HasTwin p) (s t : State) (h : AreAlikeStates (regist
       subst (λ (o : Option Target). AreAnswered AreAlikeFound (HasHelpedValue p s target (view_without_bodies b v))
       (HasHelpedValue (twin p w) t o (view_without_bodies b u))) same.0 (HasHelpedValue-target b v u k target same.1)
 
-  HasName-alike : (test : Text → Bool) (q : Param) → IsWritten test q
+  HasName-alike : (test : Text → Bool) (q : Param) → IsStaticName test q
       → AreAnswered (IsSameName test) (HasName p s q) (HasName (twin p w) t q)
   HasName-alike test (name n) is = only-answered (IsSameName test) (gives n) (gives n) (refl, is)
   HasName-alike test (path l) is = only-answered (IsSameName test) (gives (raw_of l)) (gives (raw_of l)) (refl, is)
@@ -187,13 +187,13 @@ module _ (p : Setting) (w : HasTwin p) (s t : State) (h : AreAlikeStates (regist
         → AreAnswered AreAlikeFound (HasInnerValue p s e) (HasInnerValue (twin p w) t e)
     HasInnerValue-alike (raw_string x) is = only-answered AreAlikeFound (gives missing) (gives missing) tt
     HasInnerValue-alike (html_expression c) is = only-answered AreAlikeFound (gives missing) (gives missing) tt
-    HasInnerValue-alike (expression (call n (args ps hs) b x marks)) is =
+    HasInnerValue-alike (escaped_expression (call n (args ps hs) b x marks)) is =
         let test = calls_blind (registrations p.parts) in
         then-answered (AreViewsOf test (args ps hs)) AreAlikeFound
-        (is_viewed (HasName p s n) (HaveValues p s ps) (PairsHaveValues p s hs))
-        (is_viewed (HasName (twin p w) t n) (HaveValues (twin p w) t ps) (PairsHaveValues (twin p w) t hs)) _ _
+        (is_viewed (HasName p s n) (HaveValues p s ps) (HashHasValues p s hs))
+        (is_viewed (HasName (twin p w) t n) (HaveValues (twin p w) t ps) (HashHasValues (twin p w) t hs)) _ _
         (is_viewed-alike test (args ps hs) _ _ _ _ _ _ (HasName-alike test n is.0) (HaveValues-alike ps is.1.0)
-        (PairsHaveValues-alike hs is.1.1)) (λ v u k. HasHelpedValue-alike b v u k.views k.passes)
+        (HashHasValues-alike hs is.1.1)) (λ v u k. HasHelpedValue-alike b v u k.views k.passes)
     HasInnerValue-alike (helper_block c) is = only-answered AreAlikeFound (gives missing) (gives missing) tt
     HasInnerValue-alike (decorator_expression x) is = only-answered AreAlikeFound (gives missing) (gives missing) tt
     HasInnerValue-alike (decorator_block x) is = only-answered AreAlikeFound (gives missing) (gives missing) tt
@@ -213,20 +213,20 @@ module _ (p : Setting) (w : HasTwin p) (s t : State) (h : AreAlikeStates (regist
         only-answered (AreParamsOf (param q qs)) (gives (x ∷ xs)) (gives (y ∷ ys))
         ((k.0, e.0), λ i. ap (λ z. Some z) (k.1 (is_literal-first q qs i)))))
 
-    PairsHaveValues-alike : (hs : Pairs) → AreBlindPairs (registrations p.parts) hs
-        → AreAnswered (ArePairsOf hs) (PairsHaveValues p s hs) (PairsHaveValues (twin p w) t hs)
-    PairsHaveValues-alike no_pairs is = only-answered (ArePairsOf no_pairs) (gives []) (gives []) (tt, λ e. refl)
-    PairsHaveValues-alike (pair key q hs) is =
-        then-answered (AreWrittenOf q) (ArePairsOf (pair key q hs)) (is_written q (HasValue p s q))
+    HashHasValues-alike : (hs : Hash) → IsBlindHash (registrations p.parts) hs
+        → AreAnswered (IsHashOf hs) (HashHasValues p s hs) (HashHasValues (twin p w) t hs)
+    HashHasValues-alike no_hash is = only-answered (IsHashOf no_hash) (gives []) (gives []) (tt, λ e. refl)
+    HashHasValues-alike (hash_pair key q hs) is =
+        then-answered (AreWrittenOf q) (IsHashOf (hash_pair key q hs)) (is_written q (HasValue p s q))
         (is_written q (HasValue (twin p w) t q)) _ _
         (is_written-alike q (HasValue p s q) (HasValue (twin p w) t q) (HasValue-alike q is.0)) (λ x y k.
-        then-answered (ArePairsOf hs) (ArePairsOf (pair key q hs)) (PairsHaveValues p s hs)
-        (PairsHaveValues (twin p w) t hs) _ _ (PairsHaveValues-alike hs is.1) (λ xs ys e.
-        only-answered (ArePairsOf (pair key q hs)) (gives ((key, x) ∷ xs)) (gives ((key, y) ∷ ys))
+        then-answered (IsHashOf hs) (IsHashOf (hash_pair key q hs)) (HashHasValues p s hs)
+        (HashHasValues (twin p w) t hs) _ _ (HashHasValues-alike hs is.1) (λ xs ys e.
+        only-answered (IsHashOf (hash_pair key q hs)) (gives ((key, x) ∷ xs)) (gives ((key, y) ∷ ys))
         (((refl, k.0), e.0), λ i. true-not_false i)))
 
-  pub HasView-alike : (test : Text → Bool) (n : Param) (xs : Args) → IsWritten test n
+  pub HasView-alike : (test : Text → Bool) (n : Param) (xs : Args) → IsStaticName test n
       → AreBlindArgs (registrations p.parts) xs
       → AreAnswered (AreViewsOf test xs) (HasView p s n xs) (HasView (twin p w) t n xs)
   HasView-alike test n (args ps hs) is k = is_viewed-alike test (args ps hs) _ _ _ _ _ _ (HasName-alike test n is)
-      (HaveValues-alike ps k.0) (PairsHaveValues-alike hs k.1)
+      (HaveValues-alike ps k.0) (HashHasValues-alike hs k.1)

@@ -1,4 +1,4 @@
--- Values that differ in texts alone.
+-- Values that are equal up to their texts.
 use Rattle.std.specs.Prelude.{◌≡◌, [], ◌∷◌}
 use Rattle.serde_json.specs.Data.{Data, null, boolean, number, string, array, object, Items, no_items, item, Members, no_members, member}
 use Rattle.handlebars_base.specs.Bytes.{Text}
@@ -9,7 +9,8 @@ AreAlikeTexts [] [] = Unit {0}
 AreAlikeTexts (b ∷ s) (c ∷ t) = Unit {0}
 AreAlikeTexts s t = ⊥
 
--- The same value but for its texts, of which none is empty where the other one's isn't; the keys of objects are the same.
+-- Values that are equal up to texts. A text is empty in one exactly if it is empty in the other; the keys of objects are
+-- equal.
 abbrev mutual
   pub AreAlike : Data → Data → Type 0
   AreAlike null null = Unit {0}

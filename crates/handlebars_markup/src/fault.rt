@@ -2,32 +2,32 @@
 
 use std::fmt;
 
-/// Why markup may depend on what the texts of the data say.
+/// Why markup may depend on what the texts of the data are.
 #[derive(Debug, Drop)]
 pub enum MarkupFaultReason {
     /// An html expression writes its value unescaped.
     HtmlExpression,
     /// A call in parentheses makes a name, and may make it of a text.
     MadeName,
-    /// What stands under this name reads what texts say or how long they are, or is a helper of one's own, of which
-    /// nothing is known.
+    /// The helper that is registered under this name reads what texts are or how long they are, or is user-defined:
+    /// nothing is known of a user-defined helper.
     ReadingHelper(String),
-    /// A decorator of one's own stands under this name.
-    OwnDecorator(String),
+    /// A user-defined decorator is registered under this name.
+    UserDecorator(String),
     /// The first parameter of a decorator is no literal, and `inline` takes it for a name.
     NameFromValue,
-    /// Pairs of an inclusion are merged into its value, where a text counts as its characters.
-    InclusionPairs,
-    /// The indentation of an inclusion has marks of html, and is written once for each line.
+    /// A partial has hash arguments. They are merged into its value, where a text counts as its characters.
+    InclusionHash,
+    /// The indentation of a partial has marks of html, and is written once for each line.
     MarkedIndent,
     /// The registry doesn't escape values for html.
     OtherEscape,
-    /// The helper under this name is called where a name has none, and isn't blind.
+    /// The helper under this name is called if a name has no helper, and isn't blind.
     ReadingHook(String),
 }
 
 impl MarkupFaultReason {
-    // What is said before the name that it speaks of, the name, and what is said behind it.
+    // The words before the name, the name that the reason has, and the words after it.
     fn words(&self) -> (&'static str, Option<&str>, &'static str) {
         match self {
             MarkupFaultReason::HtmlExpression => {
@@ -41,11 +41,11 @@ impl MarkupFaultReason {
                     " may read what texts say",
                 )
             }
-            MarkupFaultReason::OwnDecorator(name) => {
+            MarkupFaultReason::UserDecorator(name) => {
                 ("the decorator ", Some(name.as_str()), " is one's own")
             }
             MarkupFaultReason::NameFromValue => ("a decorator takes a name from a value", None, ""),
-            MarkupFaultReason::InclusionPairs => ("an inclusion is given pairs", None, ""),
+            MarkupFaultReason::InclusionHash => ("an inclusion is given pairs", None, ""),
             MarkupFaultReason::MarkedIndent => {
                 (
                     "the indentation of an inclusion has marks of html",
@@ -61,18 +61,18 @@ impl MarkupFaultReason {
     }
 }
 
-/// In words for the author of a template.
+/// Formats the reason in words for the author of a template.
 impl fmt::Display for MarkupFaultReason {
     fn fmt<W: fmt::Write>(&self, f: &mut fmt::Formatter<W>) -> fmt::Result {
         match self.words() {
-            (before, Some(name), behind) => write!(f, "{before}{name:?}{behind}"),
+            (before, Some(name), after) => write!(f, "{before}{name:?}{after}"),
             (before, None, _) => f.write_str(before),
         }
     }
 }
 
-/// A fault: in which template, at which line and column, counted from 1, columns in characters; and why. One of the
-/// registry has no template and no position.
+/// A fault: the name of the template, if it has one, the 1-based line and column, with columns in characters, and the
+/// reason. A fault of the registry has no template and no position.
 #[derive(Debug)]
 pub struct MarkupFault {
     pub template_name: Option<String>,
@@ -81,7 +81,7 @@ pub struct MarkupFault {
     pub reason: MarkupFaultReason,
 }
 
-// By hand, so that each place that lets a fault go is one call.
+// Hand-written, so that each drop of a fault is one call.
 impl Drop for MarkupFault {
     fn drop(self) {
         let MarkupFault {
@@ -94,7 +94,7 @@ impl Drop for MarkupFault {
 }
 
 impl MarkupFault {
-    // What is at fault: the template, by its name if it has one, or the registry.
+    // What has the fault: the template, by its name if it has one, or the registry.
     fn subject(&self) -> &str {
         match (&self.template_name, &self.reason) {
             (Some(name), _) => name.as_str(),
@@ -105,8 +105,8 @@ impl MarkupFault {
     }
 }
 
-/// One line: the name of the template (`template` where it has none, and `registry` for a fault of that), the position,
-/// where there is one, and the reason.
+/// Formats one line: the name of the template (`template` if it has none, and `registry` for a fault of the registry),
+/// the position, if there is one, and the reason.
 impl fmt::Display for MarkupFault {
     fn fmt<W: fmt::Write>(&self, f: &mut fmt::Formatter<W>) -> fmt::Result {
         let subject = self.subject();

@@ -1,4 +1,4 @@
-//! Templates whose markup no text of their data changes: when they are so, and what follows from it.
+//! Templates whose markup doesn't depend on the texts of their data: when a template is one, and what follows.
 #![tactic(auto)]
 
 pub mod check;

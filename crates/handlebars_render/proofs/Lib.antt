@@ -1,22 +1,22 @@
-mod Tells
-mod Told
-pub mod Carry
+mod Emits
+mod Emitted
+pub mod Refinement
 pub mod Puts
 mod Branches
-mod Places
+mod DataNodes
 mod Sections
-mod PlacedSections
+mod DataNodeSections
 mod Elements
 mod Calls
 mod Leaves
 mod Lists
-mod OwnSteps
+mod UserSteps
 mod Shows
 mod Leads
-mod Turns
+mod Iterations
 pub mod Silent
 mod Evaluated
 mod Sinks
-mod Stands
+mod KnowsLocation
 mod Includes
 pub mod Nodes

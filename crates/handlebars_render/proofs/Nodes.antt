@@ -1,4 +1,4 @@
--- The nodes that are lent to blocks.
+-- The nodes that scope frames borrow.
 use Rattle.std.proofs.Common.{◌≡◌, ◌<◌, ◌^◌, ℕ, List, [], ◌∷◌, Option, None, Some, option_map, Bor, decimal, IfSome, refl, sym, ap, ◌∙◌, subst}
 use Rattle.serde_json.specs.Data.{Data, null, boolean, number, string, array, object}
 use Rattle.serde_json.specs.Find.{at, get}
@@ -6,19 +6,19 @@ use Rattle.serde_json.specs.View.{view}
 use Rattle.serde_json.specs.declared.value.Value.{Value}
 use Rattle.handlebars_base.specs.Answers.{Answer, gives}
 use Rattle.handlebars_base.specs.Bytes.{Text}
-use Rattle.handlebars_scope.specs.Bases.{IsNode, NodesLead, lent_behind}
+use Rattle.handlebars_scope.specs.Bases.{IsNode, NodesLead, borrowed_after}
 use Rattle.handlebars_scope.specs.Resolve.{item_at, member_at, then_at, value_at}
 use Rattle.handlebars_scope.specs.Scopes.{Frame}
 use Rattle.handlebars_scope.proofs.IndexNames.{index_of-decimal}
-use Rattle.handlebars_scope.proofs.Ways.{value_at-on}
+use Rattle.handlebars_scope.proofs.Resolutions.{value_at-on}
 use Rattle.handlebars_template.specs.Tree.{Binding}
-use Rattle.handlebars_helpers.specs.Turns.{Turn, turn_frame, turn_name}
-use Rattle.handlebars_meaning.specs.State.{nearest_as, outer_frames}
+use Rattle.handlebars_helpers.specs.Iterations.{Iteration, iteration_frame, iteration_name}
+use Rattle.handlebars_semantics.specs.State.{nearest_as, outer_frames}
 use Rattle.handlebars_render.specs.Nodes.{IsNodeAt, below}
-use Rattle.handlebars_expand.specs.View.{HasOuter, IsKept, state_of, without_partials}
+use Rattle.handlebars_expand.specs.View.{HasOuter, IsUnchanged, state_of, without_partials}
 use Rattle.handlebars_expand.specs.declared.context.RenderContext.{RenderContext}
 
--- ---- what stays as it is
+-- ---- what is unchanged
 
 abbrev nearest_path : List Frame → List Text
 nearest_path [] = []
@@ -34,29 +34,29 @@ nodes-same (n ∷ ns) d (f ∷ fs) (g ∷ gs) is lead = (
   nodes-same ns d fs gs (ap outer_frames is) lead.1,
 )
 
-pub nodes-kept : (ns : List (Option Data)) (d : Data) {before after : RenderContext} → IsKept before after
+pub nodes-unchanged : (ns : List (Option Data)) (d : Data) {before after : RenderContext} → IsUnchanged before after
     → NodesLead ns (state_of before).blocks d → NodesLead ns (state_of after).blocks d
-nodes-kept ns d kept lead = nodes-same ns d _ _ kept.blocks lead
+nodes-unchanged ns d unchanged lead = nodes-same ns d _ _ unchanged.blocks lead
 
--- the blocks are the same
+-- the frames are the same
 nodes-blocks : (ns : List (Option Data)) (d : Data) {fs gs : List Frame} → gs ≡ fs → NodesLead ns fs d → NodesLead ns gs d
 nodes-blocks ns d is lead = subst (λ (hs : List Frame). NodesLead ns hs d) (sym is) lead
 
--- ---- one more block
+-- ---- one more frame
 
 pub nodes-pushed : (d : Data) {ns more : List (Option Data)} {node : Option Data} {f : Frame} {fs gs : List Frame}
     → more ≡ node ∷ ns → gs ≡ f ∷ fs → IsNode d f.base_path node → NodesLead ns fs d → NodesLead more gs d
 nodes-pushed d {more = more} {f = f} {fs = fs} same is at lead =
     nodes-blocks more d is (subst (λ (ms : List (Option Data)). NodesLead ms (f ∷ fs) d) (sym same) (at, lead))
 
--- ---- turns
+-- ---- iterations
 
 nodes-none : (ns : List (Option Data)) (d : Data) → NodesLead ns [] d
 nodes-none [] d = tt
 nodes-none (n ∷ ns) d = tt
 
 nodes-outer : (ns : List (Option Data)) (d : Data) (fs : List Frame) → NodesLead ns fs d
-    → NodesLead (lent_behind ns) (outer_frames fs) d
+    → NodesLead (borrowed_after ns) (outer_frames fs) d
 nodes-outer [] d fs lead = tt
 nodes-outer (n ∷ ns) d [] lead = nodes-none ns d
 nodes-outer (n ∷ ns) d (f ∷ fs) lead = lead.1
@@ -65,30 +65,30 @@ outer_frames-without : (fs : List Frame) → outer_frames (without_partials fs) 
 outer_frames-without [] = refl
 outer_frames-without (f ∷ fs) = refl
 
-turned : (d : Data) (path : Option (List Text)) (b : Binding) (t : Turn) (f : Frame) (node : Option Data)
-    → IsNodeAt d (below path (turn_name t)) node → IsNode d (turn_frame path b t f).base_path node
-turned d path b t f None at = tt
-turned d None b t f (Some v) at = absurd at
-turned d (Some names) b t f (Some v) at = at
+iterated : (d : Data) (path : Option (List Text)) (b : Binding) (t : Iteration) (f : Frame) (node : Option Data)
+    → IsNodeAt d (below path (iteration_name t)) node → IsNode d (iteration_frame path b t f).base_path node
+iterated d path b t f None at = tt
+iterated d None b t f (Some v) at = absurd at
+iterated d (Some names) b t f (Some v) at = at
 
-nearest-turned : (ns : List (Option Data)) (d : Data) (path : Option (List Text)) (b : Binding) (t : Turn) (fs : List Frame)
-    (node : Option Data) → IsNodeAt d (below path (turn_name t)) node → NodesLead ns (outer_frames fs) d
-    → NodesLead (node ∷ ns) (nearest_as (turn_frame path b t) fs) d
-nearest-turned ns d path b t [] node at lead = tt
-nearest-turned ns d path b t (f ∷ fs) node at lead = (turned d path b t f node at, lead)
+nearest-iterated : (ns : List (Option Data)) (d : Data) (path : Option (List Text)) (b : Binding) (t : Iteration) (fs : List Frame)
+    (node : Option Data) → IsNodeAt d (below path (iteration_name t)) node → NodesLead ns (outer_frames fs) d
+    → NodesLead (node ∷ ns) (nearest_as (iteration_frame path b t) fs) d
+nearest-iterated ns d path b t [] node at lead = tt
+nearest-iterated ns d path b t (f ∷ fs) node at lead = (iterated d path b t f node at, lead)
 
--- in a turn the nearest block has another node
-pub nodes-turned : (ns : List (Option Data)) (d : Data) {behind more : List (Option Data)} {first before : RenderContext}
-    (path : Option (List Text)) (b : Binding) (t : Turn) {node : Option Data} {gs : List Frame} → more ≡ node ∷ behind → behind ≡ lent_behind ns
-    → gs ≡ nearest_as (turn_frame path b t) (state_of before).blocks → IsNodeAt d (below path (turn_name t)) node
+-- in an iteration the nearest frame borrows another node
+pub nodes-iterated : (ns : List (Option Data)) (d : Data) {after more : List (Option Data)} {first before : RenderContext}
+    (path : Option (List Text)) (b : Binding) (t : Iteration) {node : Option Data} {gs : List Frame} → more ≡ node ∷ after → after ≡ borrowed_after ns
+    → gs ≡ nearest_as (iteration_frame path b t) (state_of before).blocks → IsNodeAt d (below path (iteration_name t)) node
     → HasOuter first before → NodesLead ns (state_of first).blocks d → NodesLead more gs d
-nodes-turned ns d {more = more} {first = first} {before = before} path b t {node = node} same is turn at outer lead =
-    let there = nodes-same (lent_behind ns) d (outer_frames (state_of first).blocks) (outer_frames (state_of before).blocks)
+nodes-iterated ns d {more = more} {first = first} {before = before} path b t {node = node} same is iteration at outer lead =
+    let there = nodes-same (borrowed_after ns) d (outer_frames (state_of first).blocks) (outer_frames (state_of before).blocks)
     (sym (outer_frames-without (state_of before).blocks) ∙ outer.blocks ∙ outer_frames-without (state_of first).blocks)
     (nodes-outer ns d (state_of first).blocks lead) in
-    nodes-blocks more d turn (subst (λ (ms : List (Option Data)). NodesLead ms
-    (nearest_as (turn_frame path b t) (state_of before).blocks) d) (sym (same ∙ ap (λ (ms : List (Option Data)). node ∷ ms) is))
-    (nearest-turned (lent_behind ns) d path b t (state_of before).blocks node at there))
+    nodes-blocks more d iteration (subst (λ (ms : List (Option Data)). NodesLead ms
+    (nearest_as (iteration_frame path b t) (state_of before).blocks) d) (sym (same ∙ ap (λ (ms : List (Option Data)). node ∷ ms) is))
+    (nearest-iterated (borrowed_after ns) d path b t (state_of before).blocks node at there))
 
 -- ---- the node of a member
 

@@ -1,7 +1,7 @@
 -- Sections, from what they call to what they settle.
 use Rattle.std.proofs.Common.{◌≡◌, ◌≢◌, ◌&&◌, [], ◌∷◌, Bool, true, false, Option, None, Result, Ok, Err, refl, sym, ap, ◌∙◌, subst}
 use Rattle.std.specs.Prelude.{IsErrAnd}
-use Rattle.handlebars_base.specs.Answers.{IsRefusal, gives, refuses}
+use Rattle.handlebars_base.specs.Answers.{IsRefusal, gives, fails}
 use Rattle.handlebars_base.specs.Bytes.{Text}
 use Rattle.handlebars_base.specs.Path.{IsPath, Reference}
 use Rattle.handlebars_base.specs.PathAndData.{PathAndData}
@@ -12,20 +12,20 @@ use Rattle.handlebars_base.specs.declared.error.render_error.RenderError.{Render
 use Rattle.handlebars_template.specs.Tree.{Call, Param, call_args, call_name, is_value, name, path}
 use Rattle.handlebars_helpers.specs.CallView.{CallView}
 use Rattle.handlebars_helpers.specs.Callee.{Target, built, calls_registered}
-use Rattle.handlebars_helpers.specs.Choice.{Kind}
-use Rattle.handlebars_meaning.specs.Asks.{Asks, only, goes_on, is_refused, ◌>>=◌}
-use Rattle.handlebars_meaning.specs.Means.{render_call}
-use Rattle.handlebars_meaning.specs.Questions.{HasCalled}
-use Rattle.handlebars_meaning.specs.Sections.{HasSection, HasSectionIf, HasSectionPath, reads, section_call, section_kind, without_helper}
-use Rattle.handlebars_meaning.specs.Sites.{Site}
-use Rattle.handlebars_meaning.specs.State.{Setting, State, helper_for}
-use Rattle.handlebars_meaning.specs.Values.{HasView, as_written}
+use Rattle.handlebars_helpers.specs.Choice.{BuiltInKind}
+use Rattle.handlebars_semantics.specs.Asks.{Asks, only, goes_on, first_fails, ◌>>=◌}
+use Rattle.handlebars_semantics.specs.Means.{render_call}
+use Rattle.handlebars_semantics.specs.Questions.{HasCalled}
+use Rattle.handlebars_semantics.specs.Sections.{HasSection, HasSectionIf, HasSectionPath, reads, section_call, section_kind, without_helper}
+use Rattle.handlebars_semantics.specs.Occurrences.{Occurrence}
+use Rattle.handlebars_semantics.specs.State.{Setting, State, helper_for}
+use Rattle.handlebars_semantics.specs.Values.{HasView, as_written}
 use Rattle.handlebars_expand.specs.Boxed.{answer_of, error_of}
 use Rattle.handlebars_render.specs.Next.{IsCall, Settles}
 use Rattle.handlebars_render.specs.Sections.{HasSectionAt, SettlesAs}
 use Rattle.handlebars_expand.specs.declared.boxed.BoxedError.{BoxedError}
 use Rattle.handlebars_render.specs.declared.next.Next.{Next}
-use Rattle.handlebars_render.proofs.Leaves.{leaves-called_as, refuses-called, settles-call}
+use Rattle.handlebars_render.proofs.Leaves.{leaves-called_as, fails-called, settles-call}
 
 false-and : (x y : Bool) → true ≡ (x && (false && y)) → ⊥
 false-and true y is = cc
@@ -33,25 +33,25 @@ false-and false y is = cc
 
 module _ (p : Setting) (s : State) (c : Call) (v : CallView) where
   module _ (block : Bool) where
-    -- ---- what is settled
+    -- ---- what calls settle to
 
     -- the call of a target
     pub settles-target : (x : Target × CallView) (r : Result Next RenderError) → IsCall p s block x.0 x.1 r
         → SettlesAs p s block c v (only (gives x)) r
-    settles-target x r is viewed answered site = settles-call p site block c (render_call site block c) x.0 x.1 r is
-        (leaves-called_as p site block c v x viewed (answered (gives x) refl))
+    settles-target x r is viewed answered occurrence = settles-call p occurrence block c (render_call occurrence block c) x.0 x.1 r is
+        (leaves-called_as p occurrence block c v x viewed (answered (gives x) refl))
 
-    pub settles-refused : (called : Asks (Target × CallView)) (e : RenderError)
-        → (reason_in e ≢ out_of_memory → called (refuses (refusal_of e))) → SettlesAs p s block c v called (Err e)
-    settles-refused called e is viewed answered site other =
-        refuses-called p site block c v viewed (answered (refuses (refusal_of e)) (is other))
+    pub settles-failed : (called : Asks (Target × CallView)) (e : RenderError)
+        → (reason_in e ≢ out_of_memory → called (fails (refusal_of e))) → SettlesAs p s block c v called (Err e)
+    settles-failed called e is viewed answered occurrence other =
+        fails-called p occurrence block c v viewed (answered (fails (refusal_of e)) (is other))
 
     pub settles-no_memory : (called : Asks (Target × CallView)) (r : Result Next BoxedError)
         → IsErrAnd r (λ e. reason_in (error_of e) ≡ out_of_memory) → SettlesAs p s block c v called (answer_of r)
     settles-no_memory called (Ok x) is = absurd is
-    settles-no_memory called (Err e) is = settles-refused called (error_of e) (λ other. absurd (other is))
+    settles-no_memory called (Err e) is = settles-failed called (error_of e) (λ other. absurd (other is))
 
-    -- what is asked behind a value
+    -- what is asked after a value
     pub settles-then : {A : Type 0} (m : Asks A) (f : A → Asks (Target × CallView)) (x : A) (r : Result Next RenderError)
         → m (gives x) → SettlesAs p s block c v (f x) r → SettlesAs p s block c v (m >>= f) r
     settles-then m f x r has settles viewed answered = settles viewed (λ a is. answered a (goes_on has is))
@@ -60,15 +60,15 @@ module _ (p : Setting) (s : State) (c : Call) (v : CallView) where
 
     pub settles-unhelped : (r : Result Next RenderError) → HasView p s (call_name c) (call_args c) (gives v)
         → None ≡ helper_for p.parts s block v.name → SettlesAs p s block c v (HasCalled p s block c v None) r
-        → (site : Site) → Settles p site block c (render_call site block c) s r
+        → (occurrence : Occurrence) → Settles p occurrence block c (render_call occurrence block c) s r
     settles-unhelped r viewed is settles = settles viewed (λ a has.
         subst (λ (z : Option Target). HasCalled p s block c v z a) is has)
 
     pub settles-without : (may : Bool) (e : RenderError) → may ≡ (p.parts.sections && (block && is_value c)) → may ≡ false
         → IsRefusal (plain_refusal (helper_not_found v.name)) e → SettlesAs p s block c v (HasCalled p s block c v None) (Err e)
-    settles-without may e is fails why = settles-refused (HasCalled p s block c v None) e (λ other.
-        subst (λ (z : Bool). HasSectionIf z p s (call_name c) v (refuses (refusal_of e))) (sym fails ∙ is)
-        (ap (λ (z : Refusal). refuses z) (why other)))
+    settles-without may e is failing why = settles-failed (HasCalled p s block c v None) e (λ other.
+        subst (λ (z : Bool). HasSectionIf z p s (call_name c) v (fails (refusal_of e))) (sym failing ∙ is)
+        (ap (λ (z : Refusal). fails z) (why other)))
 
   pub settles-section : (block may : Bool) (r : Result Next RenderError) → may ≡ (p.parts.sections && (block && is_value c))
       → may ≡ true → SettlesAs p s true c v (HasSection p s (call_name c) v) r
@@ -96,13 +96,13 @@ module _ (p : Setting) (s : State) (c : Call) (v : CallView) where
   pub settles-no_path : (q : Param) (e : RenderError) → call_name c ≡ q → HasSectionPath q v (without_helper v)
       → IsRefusal (plain_refusal (helper_not_found v.name)) e
       → SettlesAs p s true c v (HasSection p s (call_name c) v) (Err e)
-  settles-no_path q e is has why = settles-refused true (HasSection p s (call_name c) v) e (λ other. is_refused
-      (subst (λ (z : Param). HasSectionPath z v (refuses (refusal_of e))) (sym is)
-      (subst (λ (z : Refusal). HasSectionPath q v (refuses z)) (sym (why other)) has)))
+  settles-no_path q e is has why = settles-failed true (HasSection p s (call_name c) v) e (λ other. first_fails
+      (subst (λ (z : Param). HasSectionPath z v (fails (refusal_of e))) (sym is)
+      (subst (λ (z : Refusal). HasSectionPath q v (fails z)) (sym (why other)) has)))
 
   -- ---- a section over a value
 
-  pub settles-over : (q : Param) (found : Found) (k : Kind) (x : PathAndData) (u : CallView) (r : Result Next RenderError)
+  pub settles-over : (q : Param) (found : Found) (k : BuiltInKind) (x : PathAndData) (u : CallView) (r : Result Next RenderError)
       → k ≡ section_kind (data_in found) → x ≡ as_written q found → u ≡ record v { params = x ∷ [] }
       → IsCall p s true (calls_registered (built k)) u r → SettlesAs p s true c v (only (gives (section_call q v found))) r
   settles-over q found k x u r kind written shown is = settles-target true (section_call q v found) r

@@ -1,4 +1,4 @@
--- Where a rendering writes: what stays the same.
+-- Where a rendering writes: what is unchanged.
 use Rattle.std.proofs.Common.{refl, ◌∙◌}
 use Rattle.handlebars_render.specs.View.{IsSame}
 use Rattle.handlebars_render.specs.declared.sink.Sink.{Sink}

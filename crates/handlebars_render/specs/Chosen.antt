@@ -7,28 +7,28 @@ use Rattle.handlebars_template.specs.declared.template.tree.Template.{Template}
 use Rattle.handlebars_scope.specs.Scopes.{empty_frame}
 use Rattle.handlebars_scope.specs.ScopeView.{frame_of}
 use Rattle.handlebars_helpers.specs.CallView.{HelperView}
-use Rattle.handlebars_helpers.specs.OwnView.{step_of}
-use Rattle.handlebars_helpers.specs.View.{path_view, turns_left}
-use Rattle.handlebars_meaning.specs.CarryOut.{in_block, render_body, render_branch, take_steps, take_turns}
-use Rattle.handlebars_meaning.specs.Sites.{Site, inverse_at}
-use Rattle.handlebars_meaning.specs.Steps.{Prog, return}
+use Rattle.handlebars_helpers.specs.UserView.{step_of}
+use Rattle.handlebars_helpers.specs.View.{path_view, iterations_left}
+use Rattle.handlebars_semantics.specs.Execute.{in_scope_frame, render_body, render_branch, take_steps, run_iterations}
+use Rattle.handlebars_semantics.specs.Occurrences.{Occurrence, inverse_at}
+use Rattle.handlebars_semantics.specs.Steps.{Prog, return}
 use Rattle.handlebars_expand.specs.declared.boxed.BoxedError.{BoxedError}
 use Rattle.handlebars_render.specs.declared.chosen.ToRender.{ToRender}
-use Rattle.handlebars_render.specs.declared.chosen.ToRender.TheVariants.{Nothing, Body as TheBody, Inverse, BodyIn, BodyInTurns, Steps}
+use Rattle.handlebars_render.specs.declared.chosen.ToRender.TheVariants.{Nothing, Body as TheBody, Inverse, BodyIn, BodyInIterations, Steps}
 
 -- a body or an inverse, where there is one
 abbrev pub part_view : Option (Bor Template) → Body
 part_view part = body_of (option_map (λ t. tree_view t.now) part)
 
-abbrev pub render_rest : Site → HelperView → ToRender → Prog (Unit {0})
-render_rest site h Nothing = return tt
-render_rest site h TheBody = render_body site 0 h
-render_rest site h Inverse = render_branch (inverse_at site 0) h.inverse
-render_rest site h (BodyIn block) = in_block (frame_of block) (render_body site 0 h)
-render_rest site h (BodyInTurns path turns) = in_block empty_frame (take_turns site 0 h (path_view path) (turns_left turns))
-render_rest site h (Steps steps) = take_steps site h 0 (map step_of steps.items)
+abbrev pub render_rest : Occurrence → HelperView → ToRender → Prog (Unit {0})
+render_rest occurrence h Nothing = return tt
+render_rest occurrence h TheBody = render_body occurrence 0 h
+render_rest occurrence h Inverse = render_branch (inverse_at occurrence 0) h.inverse
+render_rest occurrence h (BodyIn block) = in_scope_frame (frame_of block) (render_body occurrence 0 h)
+render_rest occurrence h (BodyInIterations path iterations) = in_scope_frame empty_frame (run_iterations occurrence 0 h (path_view path) (iterations_left iterations))
+render_rest occurrence h (Steps steps) = take_steps occurrence h 0 (map step_of steps.items)
 
--- Where a write is done, nothing is left to be rendered.
+-- After a write that succeeded, nothing is left to be rendered.
 abbrev pub IsDone : Result (Unit {0}) BoxedError → Result ToRender BoxedError → Type 0
 IsDone (Ok u) r = r ≡ Ok Nothing
 IsDone (Err e) r = r ≡ Err e

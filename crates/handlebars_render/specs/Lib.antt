@@ -1,11 +1,11 @@
-pub mod Ways
+pub mod ModeView
 pub mod View
 pub mod Judgement
 pub mod Chosen
 pub mod Shows
 pub mod Writes
-pub mod Tells
-pub mod Places
+pub mod Emits
+pub mod DataNodes
 pub mod Next
 pub mod Sections
 pub mod Silent

@@ -1,4 +1,4 @@
-//! The short way of `if` and `unless`, whose condition is most often a path: nothing is made for it.
+//! The fast path of `if` and `unless`, whose condition is most often a path: nothing is built for it.
 
 ghost use Rattle.std.specs.Prelude.{◌≡◌, Bool, IfSome, Some, option_map};
 ghost use Rattle.handlebars_base.specs.Answers.{IsRefusal};
@@ -10,8 +10,8 @@ ghost use Rattle.handlebars_template.specs.TreeView.{call_view};
 ghost use Rattle.handlebars_base.specs.Bytes.{Text};
 ghost use Rattle.handlebars_helpers.specs.Callee.{built, calls_registered};
 ghost use Rattle.handlebars_expand.specs.Boxed.{answer_of, error_of};
-ghost use Rattle.handlebars_render.specs.Next.{Judges, wanting};
-ghost use Rattle.handlebars_render.specs.Places.{path_alone};
+ghost use Rattle.handlebars_render.specs.Next.{DecidesCondition, kind_when};
+ghost use Rattle.handlebars_render.specs.DataNodes.{path_alone};
 ghost use Rattle.handlebars_expand.specs.Targets.{target_in};
 ghost use Rattle.handlebars_expand.specs.Judgement.{InState};
 ghost use Rattle.handlebars_expand.specs.View.{HasNodes};
@@ -27,24 +27,24 @@ use handlebars_scope::context::reached::{Reached, wrong_index};
 use handlebars_template::template::{HelperTemplate, Parameter};
 use std::alloc::Global;
 
-/// The condition of a call of `if` or `unless` that is a path, without any other parameter or pair, and whether it
-/// holds for the body.
+/// Returns the condition of a call of `if` or `unless`, if it is a path and there is no other parameter or hash argument, and
+/// the truth value of the condition for which the body is rendered.
 pub fn branching(helper: &HelperTemplate, target: Option<Target>) -> Option<(bool, &Path)>
-    ensures kind { IfSome result (λ x. (block : Bool) (name : Text) → option_map (target_in block name) target ≡ Some (calls_registered (built (wanting x.0)))) }
+    ensures kind { IfSome result (λ x. (block : Bool) (name : Text) → option_map (target_in block name) target ≡ Some (calls_registered (built (kind_when x.0)))) }
     ensures path { IfSome result (λ x. call_args (call_view helper.now) ≡ path_alone (reference_of x.1.now)) }
 {
-    match wanted(target) {
-        Some(wanted) => match lone_path(helper) {
-            Some(path) => Some((wanted, path)),
+    match expected(target) {
+        Some(expected) => match lone_path(helper) {
+            Some(path) => Some((expected, path)),
             None => None,
         },
         None => None,
     }
 }
 
-// What the condition is for the body: true of `if`, and false of `unless`.
-fn wanted(target: Option<Target>) -> Option<bool>
-    ensures { IfSome result (λ wanted. (block : Bool) (name : Text) → option_map (target_in block name) target ≡ Some (calls_registered (built (wanting wanted)))) }
+// The truth value of the condition for which the body is rendered: true for `if`, and false for `unless`.
+fn expected(target: Option<Target>) -> Option<bool>
+    ensures { IfSome result (λ expected. (block : Bool) (name : Text) → option_map (target_in block name) target ≡ Some (calls_registered (built (kind_when expected)))) }
 {
     match target {
         Some(Target::Built(BuiltIn::If)) => Some(true),
@@ -53,7 +53,7 @@ fn wanted(target: Option<Target>) -> Option<bool>
     }
 }
 
-/// The one parameter of a call, where it is a path, and there are no pairs.
+/// Returns the only parameter of a call, if it is a path and there are no hash arguments.
 pub fn lone_path(helper: &HelperTemplate) -> Option<&Path>
     ensures { IfSome result (λ path. call_args (call_view helper.now) ≡ path_alone (reference_of path.now)) }
 {
@@ -66,14 +66,14 @@ pub fn lone_path(helper: &HelperTemplate) -> Option<&Path>
     }
 }
 
-/// Whether what a path leads to counts as true; nothing counts as null.
+/// Returns whether what a path leads to counts as true. A missing value counts as null.
 pub fn condition<P: Registered>(
     environment: &Environment<P>,
     path: &Path,
     rc: &RenderContext,
 ) -> Result<bool, BoxedError>
     requires nodes { HasNodes environment.now rc.now }
-    ensures { InState P.parts environment.now rc.now (λ p s. Judges p s (reference_of path.now) (answer_of result)) }
+    ensures { InState P.parts environment.now rc.now (λ p s. DecidesCondition p s (reference_of path.now) (answer_of result)) }
 {
     match internal::reach(rc, environment.given.data(), path, environment.bases) {
         Reached::Value(value) => Ok(value.is_truthy(false)),
@@ -82,7 +82,7 @@ pub fn condition<P: Registered>(
     }
 }
 
-/// The refusal of a name in a path that is no index.
+/// Returns the `InvalidJsonIndex` error for a name in a path that is not an index.
 #[cold]
 #[inline(never)]
 pub fn not_an_index(alloc: Global, name: &str) -> BoxedError

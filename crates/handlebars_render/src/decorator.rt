@@ -1,17 +1,17 @@
-//! Carrying out a decorator.
+//! Executing a decorator.
 
 ghost use Rattle.std.specs.Prelude.{map};
 ghost use Rattle.handlebars_base.specs.Answers.{IsRefusal};
 ghost use Rattle.handlebars_base.specs.Reasons.{decorator_not_found};
 ghost use Rattle.handlebars_base.specs.RenderRefusals.{plain_refusal};
 ghost use Rattle.handlebars_template.specs.TreeView.{decorator_view};
-ghost use Rattle.handlebars_helpers.specs.Decoration.{kind_inline, kind_own};
-ghost use Rattle.handlebars_helpers.specs.DecoratorsView.{deed_of, tag_view};
-ghost use Rattle.handlebars_meaning.specs.Means.{do_deed, do_deeds, render_decorator, set_partial};
+ghost use Rattle.handlebars_helpers.specs.Decoration.{kind_inline, kind_user};
+ghost use Rattle.handlebars_helpers.specs.DecoratorsView.{action_of, tag_view};
+ghost use Rattle.handlebars_semantics.specs.Means.{do_action, do_actions, render_decorator, set_partial};
 ghost use Rattle.handlebars_expand.specs.Boxed.{answer_of, error_of};
 ghost use Rattle.handlebars_render.specs.Silent.{Does, decorate_as, decorate_by};
 ghost use Rattle.handlebars_expand.specs.Judgement.{Between};
-ghost use Rattle.handlebars_expand.specs.View.{IsKept, HasNodes};
+ghost use Rattle.handlebars_expand.specs.View.{IsUnchanged, HasNodes};
 
 use handlebars_base::error::{RenderError, RenderErrorReason};
 use handlebars_expand::boxed::BoxedError;
@@ -21,11 +21,11 @@ use handlebars_expand::environment::Environment;
 use handlebars_expand::registered::Registered;
 use handlebars_helpers::decorators::view::Decorator;
 use handlebars_helpers::decorators::{DecoratorKind, DecoratorStep, inline};
-use handlebars_helpers::own::LocalHelper;
+use handlebars_helpers::user::LocalHelper;
 use handlebars_template::template::DecoratorTemplate;
 use std::alloc::{AllocError, Global};
 
-/// Does what the decorator of a tag does. Nothing is written.
+/// Executes the decorator of a tag. Writes nothing.
 pub fn render_decorator<'a, P: Registered>(
     tag: &'a DecoratorTemplate,
     environment: &Environment<'_, 'a, P>,
@@ -34,14 +34,14 @@ pub fn render_decorator<'a, P: Registered>(
     requires nodes { HasNodes environment.now rc.old }
     ensures does { Between P.parts environment.now rc (λ p s next. Does p (render_decorator (decorator_view tag.now)) s
         (answer_of result) next) }
-    ensures kept { IsKept rc.old rc.new }
+    ensures unchanged { IsUnchanged rc.old rc.new }
 {
     let call = view_of_tag(environment, rc, tag)?;
     let view = call.of_tag(environment.alloc, environment.indent, tag)?;
     decorate(&view, environment, rc)
 }
 
-// Asks the decorator of a tag's name for its deeds, and does them.
+// Asks the decorator of a tag's name for its actions, and executes them.
 fn decorate<P: Registered>(
     tag: &Decorator,
     environment: &Environment<P>,
@@ -49,16 +49,16 @@ fn decorate<P: Registered>(
 ) -> Result<(), BoxedError>
     ensures does { Between P.parts environment.now rc (λ p s next. Does p (decorate_as (tag_view tag.now)) s
         (answer_of result) next) }
-    ensures kept { IsKept rc.old rc.new }
+    ensures unchanged { IsUnchanged rc.old rc.new }
 {
     match environment.parts.decorator(tag.name()) {
         Some(DecoratorKind::Inline) => decorate_inline(tag, environment, rc),
-        Some(DecoratorKind::Own) => decorate_own(tag, environment, rc),
+        Some(DecoratorKind::Own) => decorate_by_user(tag, environment, rc),
         None => Err(unknown_decorator(environment.alloc, tag.name())),
     }
 }
 
-// `inline`, which has one deed: nothing is made for it.
+// Executes `inline`, which has one action: nothing is built for it.
 fn decorate_inline<P: Registered>(
     tag: &Decorator,
     environment: &Environment<P>,
@@ -66,7 +66,7 @@ fn decorate_inline<P: Registered>(
 ) -> Result<(), BoxedError>
     ensures does { Between P.parts environment.now rc (λ p s next. Does p (decorate_by kind_inline (tag_view tag.now)) s
         (answer_of result) next) }
-    ensures kept { IsKept rc.old rc.new }
+    ensures unchanged { IsUnchanged rc.old rc.new }
 {
     match inline(tag) {
         Ok(name) => set_partial(tag, environment, name, rc),
@@ -74,55 +74,55 @@ fn decorate_inline<P: Registered>(
     }
 }
 
-// The decorator of one's own under the name of a tag.
-fn decorate_own<P: Registered>(
+// Executes the user-defined decorator that is registered under the name of a tag.
+fn decorate_by_user<P: Registered>(
     tag: &Decorator,
     environment: &Environment<P>,
     rc: &mut RenderContext,
 ) -> Result<(), BoxedError>
     ensures does { Between P.parts environment.now rc (λ p s next. Does p
-        (decorate_by (kind_own (tag_view tag.now).call.name) (tag_view tag.now)) s (answer_of result) next) }
-    ensures kept { IsKept rc.old rc.new }
+        (decorate_by (kind_user (tag_view tag.now).call.name) (tag_view tag.now)) s (answer_of result) next) }
+    ensures unchanged { IsUnchanged rc.old rc.new }
 {
     match environment
         .parts
-        .deeds_of(tag.name(), tag, environment.given, rc.context())
+        .actions_of(tag.name(), tag, environment.given, rc.context())
     {
-        Ok(deeds) => do_deeds(tag, environment, deeds, rc),
+        Ok(actions) => do_actions(tag, environment, actions, rc),
         Err(e) => Err(BoxedError::new(environment.alloc, e)),
     }
 }
 
-// The deeds, in order.
-fn do_deeds<P: Registered>(
+// Executes the actions, in order.
+fn do_actions<P: Registered>(
     tag: &Decorator,
     environment: &Environment<P>,
-    deeds: Vec<DecoratorStep>,
+    actions: Vec<DecoratorStep>,
     rc: &mut RenderContext,
 ) -> Result<(), BoxedError>
     ensures does { Between P.parts environment.now rc (λ p s next. Does p
-        (do_deeds (tag_view tag.now).body (map deed_of deeds.items)) s (answer_of result) next) }
-    ensures kept { IsKept rc.old rc.new }
+        (do_actions (tag_view tag.now).body (map action_of actions.items)) s (answer_of result) next) }
+    ensures unchanged { IsUnchanged rc.old rc.new }
 {
-    'deeds: for deed in deeds {
-        if let Err(e) = do_deed(tag, environment, deed, rc) {
+    'actions: for action in actions {
+        if let Err(e) = do_action(tag, environment, action, rc) {
             return Err(e);
         }
     }
     Ok(())
 }
 
-fn do_deed<P: Registered>(
+fn do_action<P: Registered>(
     tag: &Decorator,
     environment: &Environment<P>,
-    deed: DecoratorStep,
+    action: DecoratorStep,
     rc: &mut RenderContext,
 ) -> Result<(), BoxedError>
-    ensures does { Between P.parts environment.now rc (λ p s next. Does p (do_deed (tag_view tag.now).body (deed_of deed)) s
+    ensures does { Between P.parts environment.now rc (λ p s next. Does p (do_action (tag_view tag.now).body (action_of action)) s
         (answer_of result) next) }
-    ensures kept { IsKept rc.old rc.new }
+    ensures unchanged { IsUnchanged rc.old rc.new }
 {
-    match deed {
+    match action {
         DecoratorStep::SetContext(context) => {
             rc.set_context(context);
             Ok(())
@@ -150,7 +150,7 @@ fn do_deed<P: Registered>(
     }
 }
 
-// The body of the tag is a partial of the nearest block from now on. A tag without one is refused.
+// Makes the body of the tag a partial of the nearest scope frame. A tag without a body fails.
 fn set_partial<P: Registered>(
     tag: &Decorator,
     environment: &Environment<P>,
@@ -159,7 +159,7 @@ fn set_partial<P: Registered>(
 ) -> Result<(), BoxedError>
     ensures does { Between P.parts environment.now rc (λ p s next. Does p (set_partial name.now (tag_view tag.now).body) s
         (answer_of result) next) }
-    ensures kept { IsKept rc.old rc.new }
+    ensures unchanged { IsUnchanged rc.old rc.new }
 {
     match tag.template() {
         Some(template) => {
@@ -173,7 +173,7 @@ fn set_partial<P: Registered>(
     }
 }
 
-// The refusal of a name that no decorator has.
+// The error for a name that no decorator has.
 #[cold]
 #[inline(never)]
 fn unknown_decorator(alloc: Global, name: &str) -> BoxedError

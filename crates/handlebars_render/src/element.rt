@@ -1,16 +1,16 @@
 //! Rendering an element.
 
 ghost use Rattle.handlebars_template.specs.TreeView.{element_view, call_view};
-ghost use Rattle.handlebars_meaning.specs.Sites.{Site};
-ghost use Rattle.handlebars_meaning.specs.Means.{render_element, render_expression, without_escaping};
-ghost use Rattle.handlebars_render.specs.Judgement.{Carries, Stays};
-ghost use Rattle.handlebars_expand.specs.View.{HasNodes, Stands};
+ghost use Rattle.handlebars_semantics.specs.Occurrences.{Occurrence};
+ghost use Rattle.handlebars_semantics.specs.Means.{render_element, render_expression, without_escaping};
+ghost use Rattle.handlebars_render.specs.Judgement.{Refines, Stays};
+ghost use Rattle.handlebars_expand.specs.View.{HasNodes, KnowsLocation};
 
 use crate::block::render_tag;
 use crate::decorator::render_decorator;
+use crate::output_mode::OutputMode;
 use crate::partial::render_partial;
 use crate::sink::Sink;
-use crate::telling::Telling;
 use crate::write::write_text;
 use handlebars_expand::boxed::BoxedError;
 use handlebars_expand::context::RenderContext;
@@ -20,15 +20,15 @@ use handlebars_template::template::{HelperTemplate, TemplateElement};
 
 /// Renders one element of a tree.
 #[cycle(render)]
-pub fn render_element<'a, O, T: Telling<O>, P: Registered>(
+pub fn render_element<'a, O, T: OutputMode<O>, P: Registered>(
     element: &'a TemplateElement,
     environment: &Environment<'_, 'a, P>,
     rc: &mut RenderContext,
     sink: &mut Sink<'_, O, T>,
 ) -> Result<(), BoxedError>
     requires nodes { HasNodes environment.now rc.old }
-    ensures renders { (site : Site) → Stands T.way.asks environment.now site → Carries P.parts T.way environment.now rc sink result
-        (render_element site (element_view element.now)) }
+    ensures renders { (occurrence : Occurrence) → KnowsLocation T.mode.asks environment.now occurrence → Refines P.parts T.mode environment.now rc sink result
+        (render_element occurrence (element_view element.now)) }
     ensures stays { Stays rc sink }
 {
     match element {
@@ -44,17 +44,17 @@ pub fn render_element<'a, O, T: Telling<O>, P: Registered>(
     }
 }
 
-// An expression with escaping off, which is restored before a refusal goes on.
+// Renders an expression with escaping off. Escaping is restored before an error is propagated.
 #[cycle(render)]
-fn render_unescaped<'a, O, T: Telling<O>, P: Registered>(
+fn render_unescaped<'a, O, T: OutputMode<O>, P: Registered>(
     helper: &'a HelperTemplate,
     environment: &Environment<'_, 'a, P>,
     rc: &mut RenderContext,
     sink: &mut Sink<'_, O, T>,
 ) -> Result<(), BoxedError>
     requires nodes { HasNodes environment.now rc.old }
-    ensures renders { (site : Site) → Stands T.way.asks environment.now site → Carries P.parts T.way environment.now rc sink result
-        (without_escaping (render_expression site (call_view helper.now))) }
+    ensures renders { (occurrence : Occurrence) → KnowsLocation T.mode.asks environment.now occurrence → Refines P.parts T.mode environment.now rc sink result
+        (without_escaping (render_expression occurrence (call_view helper.now))) }
     ensures stays { Stays rc sink }
 {
     let disabled = rc.is_disable_escape();

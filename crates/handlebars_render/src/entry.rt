@@ -1,20 +1,20 @@
-//! The entrances of a rendering, for callers that have an output.
+//! The entry points of a rendering, for callers that have an output.
 
 ghost use Rattle.std.specs.Prelude.{false, true};
 ghost use Rattle.handlebars_template.specs.TreeView.{element_view, tree_view};
 ghost use Rattle.handlebars_helpers.specs.DecoratorsView.{tag_view};
-ghost use Rattle.handlebars_meaning.specs.Including.{include};
-ghost use Rattle.handlebars_meaning.specs.Means.{render_element};
-ghost use Rattle.handlebars_meaning.specs.Sites.{Site, TreeSite};
-ghost use Rattle.handlebars_meaning.specs.Steps.{Whole, perform, run};
+ghost use Rattle.handlebars_semantics.specs.Including.{include};
+ghost use Rattle.handlebars_semantics.specs.Means.{render_element};
+ghost use Rattle.handlebars_semantics.specs.Occurrences.{Occurrence, TreeOccurrence};
+ghost use Rattle.handlebars_semantics.specs.Steps.{Whole, perform, run};
 ghost use Rattle.handlebars_expand.specs.Boxed.{answer_of};
-ghost use Rattle.handlebars_expand.specs.View.{HasNodes, IsKept, Keeps, KeptIn, StandsIn, setting_in, within};
-ghost use Rattle.handlebars_render.specs.View.{CarriesOn, CarriesOut, all_told, moment, untold};
+ghost use Rattle.handlebars_expand.specs.View.{HasNodes, IsUnchanged, Captures, CapturedIn, KnowsAround, setting_in, within};
+ghost use Rattle.handlebars_render.specs.View.{RefinesProg, RefinesSteps, holding_of_pieces, moment, text_only};
 
 use crate::element::render_element;
+use crate::output_mode::{EachPiece, TextOnly};
 use crate::partial::include;
 use crate::sink::Sink;
-use crate::telling::{EachPiece, Untold};
 use crate::tree::render_tree;
 use handlebars_base::output::Output;
 use handlebars_expand::boxed::BoxedError;
@@ -34,13 +34,13 @@ pub fn render_into<'a, O: Output, P: Registered>(
     out: &mut O,
 ) -> Result<(), BoxedError>
     requires nodes { HasNodes environment.now rc.old }
-    ensures renders { (at : TreeSite) (kept : KeptIn (within environment.now)) → Keeps false kept
-        → CarriesOn (setting_in P.parts environment.now)
-        (perform (Whole at (tree_view template.now))) O.may_give (moment kept rc.old (untold (O.held out.old)))
-        (answer_of result) (moment kept rc.new (untold (O.held out.new))) }
-    ensures kept { IsKept rc.old rc.new }
+    ensures renders { (at : TreeOccurrence) (captured : CapturedIn (within environment.now)) → Captures false captured
+        → RefinesProg (setting_in P.parts environment.now)
+        (perform (Whole at (tree_view template.now))) O.may_give (moment captured rc.old (text_only (O.held out.old)))
+        (answer_of result) (moment captured rc.new (text_only (O.held out.new))) }
+    ensures unchanged { IsUnchanged rc.old rc.new }
 {
-    let mut sink: Sink<'_, O, Untold> = Sink::Out(out, PhantomData);
+    let mut sink: Sink<'_, O, TextOnly> = Sink::Out(out, PhantomData);
     let answer = render_tree(template, environment, rc, &mut sink);
     match sink {
         Sink::Out(_out, _) => answer,
@@ -56,13 +56,13 @@ pub fn render_element_into<'a, O: Output, P: Registered>(
     out: &mut O,
 ) -> Result<(), BoxedError>
     requires nodes { HasNodes environment.now rc.old }
-    ensures renders { (site : Site) (kept : KeptIn (within environment.now)) → Keeps false kept
-        → CarriesOut (setting_in P.parts environment.now)
-        (run (render_element site (element_view element.now))) O.may_give (moment kept rc.old (untold (O.held out.old)))
-        (answer_of result) (moment kept rc.new (untold (O.held out.new))) }
-    ensures kept { IsKept rc.old rc.new }
+    ensures renders { (occurrence : Occurrence) (captured : CapturedIn (within environment.now)) → Captures false captured
+        → RefinesSteps (setting_in P.parts environment.now)
+        (run (render_element occurrence (element_view element.now))) O.may_give (moment captured rc.old (text_only (O.held out.old)))
+        (answer_of result) (moment captured rc.new (text_only (O.held out.new))) }
+    ensures unchanged { IsUnchanged rc.old rc.new }
 {
-    let mut sink: Sink<'_, O, Untold> = Sink::Out(out, PhantomData);
+    let mut sink: Sink<'_, O, TextOnly> = Sink::Out(out, PhantomData);
     let answer = render_element(element, environment, rc, &mut sink);
     match sink {
         Sink::Out(_out, _) => answer,
@@ -70,7 +70,7 @@ pub fn render_element_into<'a, O: Output, P: Registered>(
     }
 }
 
-/// Includes what is found by the name of a tag, into an output.
+/// Includes what is found by the name of a tag, and renders it into an output.
 pub fn include_into<O: Output, P: Registered>(
     view: &Decorator,
     environment: &Environment<'_, '_, P>,
@@ -78,13 +78,13 @@ pub fn include_into<O: Output, P: Registered>(
     out: &mut O,
 ) -> Result<(), BoxedError>
     requires nodes { HasNodes environment.now rc.old }
-    ensures renders { (site : Site) (kept : KeptIn (within environment.now)) → Keeps false kept
-        → CarriesOn (setting_in P.parts environment.now)
-        (include site (tag_view view.now)) O.may_give (moment kept rc.old (untold (O.held out.old)))
-        (answer_of result) (moment kept rc.new (untold (O.held out.new))) }
-    ensures kept { IsKept rc.old rc.new }
+    ensures renders { (occurrence : Occurrence) (captured : CapturedIn (within environment.now)) → Captures false captured
+        → RefinesProg (setting_in P.parts environment.now)
+        (include occurrence (tag_view view.now)) O.may_give (moment captured rc.old (text_only (O.held out.old)))
+        (answer_of result) (moment captured rc.new (text_only (O.held out.new))) }
+    ensures unchanged { IsUnchanged rc.old rc.new }
 {
-    let mut sink: Sink<'_, O, Untold> = Sink::Out(out, PhantomData);
+    let mut sink: Sink<'_, O, TextOnly> = Sink::Out(out, PhantomData);
     let answer = include(view, environment, rc, &mut sink);
     match sink {
         Sink::Out(_out, _) => answer,
@@ -92,7 +92,7 @@ pub fn include_into<O: Output, P: Registered>(
     }
 }
 
-/// Renders a tree into an output that is told of each piece.
+/// Renders a tree into an output that receives each piece.
 pub fn render_pieces_into<'a, O: PieceOutput, P: Registered>(
     template: &'a Template,
     environment: &Environment<'_, 'a, P>,
@@ -100,11 +100,11 @@ pub fn render_pieces_into<'a, O: PieceOutput, P: Registered>(
     out: &mut O,
 ) -> Result<(), BoxedError>
     requires nodes { HasNodes environment.now rc.old }
-    ensures renders { (at : TreeSite) → StandsIn true environment.now at → (kept : KeptIn (within environment.now))
-        → Keeps true kept → CarriesOn (setting_in P.parts environment.now)
-        (perform (Whole at (tree_view template.now))) O.may_give (moment kept rc.old (all_told (O.told out.old)))
-        (answer_of result) (moment kept rc.new (all_told (O.told out.new))) }
-    ensures kept { IsKept rc.old rc.new }
+    ensures renders { (at : TreeOccurrence) → KnowsAround true environment.now at → (captured : CapturedIn (within environment.now))
+        → Captures true captured → RefinesProg (setting_in P.parts environment.now)
+        (perform (Whole at (tree_view template.now))) O.may_give (moment captured rc.old (holding_of_pieces (O.emitted out.old)))
+        (answer_of result) (moment captured rc.new (holding_of_pieces (O.emitted out.new))) }
+    ensures unchanged { IsUnchanged rc.old rc.new }
 {
     let mut sink: Sink<'_, O, EachPiece> = Sink::Out(out, PhantomData);
     let answer = render_tree(template, environment, rc, &mut sink);

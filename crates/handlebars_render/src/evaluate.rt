@@ -1,24 +1,24 @@
-//! Evaluating: carrying out decorators alone.
+//! Evaluating: executing decorators alone.
 
 ghost use Rattle.handlebars_template.specs.Tree.{tree_name};
 ghost use Rattle.handlebars_template.specs.TreeView.{element_view, tree_view};
-ghost use Rattle.handlebars_meaning.specs.Evaluation.{decorator_alone, eval_tree, renamed};
-ghost use Rattle.handlebars_meaning.specs.Means.{render_element};
-ghost use Rattle.handlebars_meaning.specs.Sites.{Site};
+ghost use Rattle.handlebars_semantics.specs.Evaluation.{decorator_alone, eval_tree, renamed};
+ghost use Rattle.handlebars_semantics.specs.Means.{render_element};
+ghost use Rattle.handlebars_semantics.specs.Occurrences.{Occurrence};
 ghost use Rattle.handlebars_expand.specs.Boxed.{answer_of};
 ghost use Rattle.handlebars_render.specs.Silent.{Does, Evals};
 ghost use Rattle.handlebars_expand.specs.Judgement.{Between};
-ghost use Rattle.handlebars_expand.specs.View.{IsKept, HasNodes};
+ghost use Rattle.handlebars_expand.specs.View.{IsUnchanged, HasNodes};
 
 use crate::decorator::render_decorator;
-use crate::tree::placed;
+use crate::tree::positioned;
 use handlebars_expand::boxed::BoxedError;
 use handlebars_expand::context::RenderContext;
 use handlebars_expand::environment::Environment;
 use handlebars_expand::registered::Registered;
 use handlebars_template::template::{Template, TemplateElement};
 
-/// Carries out the decorators of a tree, in order. The name of the tree takes the place of the one in an error.
+/// Executes the decorators of a tree, in order. The name of the tree replaces the one in an error.
 pub fn eval_tree<'a, P: Registered>(
     template: &'a Template,
     environment: &Environment<'_, 'a, P>,
@@ -27,26 +27,26 @@ pub fn eval_tree<'a, P: Registered>(
     requires nodes { HasNodes environment.now rc.old }
     ensures evals { Between P.parts environment.now rc (λ p s next. Evals p (eval_tree (tree_view template.now))
         (renamed (tree_name (tree_view template.now))) s (answer_of result) next) }
-    ensures kept { IsKept rc.old rc.new }
+    ensures unchanged { IsUnchanged rc.old rc.new }
 {
     'elements: for (index, element) in template.elements.iter().enumerate() {
         if let Err(e) = eval_element(element, environment, rc) {
-            return Err(placed(e, template.mapping.get(index)).renamed(&template.name));
+            return Err(positioned(e, template.mapping.get(index)).renamed(&template.name));
         }
     }
     Ok(())
 }
 
-/// Carries out an element that is a decorator; any other does nothing.
+/// Executes an element that is a decorator. Any other element does nothing.
 pub fn eval_element<'a, P: Registered>(
     element: &'a TemplateElement,
     environment: &Environment<'_, 'a, P>,
     rc: &mut RenderContext,
 ) -> Result<(), BoxedError>
     requires nodes { HasNodes environment.now rc.old }
-    ensures does { (site : Site) → Between P.parts environment.now rc
-        (λ p s next. Does p (render_element site (decorator_alone (element_view element.now))) s (answer_of result) next) }
-    ensures kept { IsKept rc.old rc.new }
+    ensures does { (occurrence : Occurrence) → Between P.parts environment.now rc
+        (λ p s next. Does p (render_element occurrence (decorator_alone (element_view element.now))) s (answer_of result) next) }
+    ensures unchanged { IsUnchanged rc.old rc.new }
 {
     match element {
         TemplateElement::DecoratorExpression(tag) => render_decorator(tag, environment, rc),

@@ -1,28 +1,28 @@
-//! Rendering: carrying out what a template means, with whatever is registered. Its callers are the calls of `handlebars`
-//! that take a registry.
+//! Rendering: executing what a template means, with whatever is registered. Its callers are the functions of `handlebars` that
+//! take a registry.
 #![tactic(auto)]
 
 mod block;
 mod branch;
 mod chosen;
+mod data_node;
 pub mod decorator;
 mod each;
 pub mod element;
+mod emit;
 pub mod entry;
 pub mod evaluate;
-mod fault;
 mod lone;
 mod next;
+pub mod output_mode;
 mod partial;
-mod place;
 mod section;
 pub mod sink;
 mod steps;
-mod tell;
-pub mod telling;
 pub mod tree;
 pub mod write;
+mod write_error;
 
 pub use handlebars_expand::{
-    ahead, boxed, context, environment, failure, heard, pieces, registered, value,
+    ahead, boxed, context, environment, failure, pieces, registered, trace, value,
 };

@@ -1,4 +1,4 @@
-//! What an expression with no parameters and no pairs comes to: it calls the helper of its name, or is a value.
+//! What an expression with no parameters and no hash arguments reduces to: it calls the helper of its name, or is a value.
 
 ghost use Rattle.std.specs.Prelude.{◌≡◌, None, Some, true, false};
 ghost use Rattle.std.specs.Cow.{cow_str_bytes};
@@ -13,21 +13,21 @@ ghost use Rattle.handlebars_template.specs.Tree.{Call, as_name, call_name, is_va
 ghost use Rattle.handlebars_template.specs.Tree as tree;
 ghost use Rattle.handlebars_template.specs.TreeView.{call_view, param_view, subexpression_view};
 ghost use Rattle.handlebars_helpers.specs.CallView.{CallView};
-ghost use Rattle.handlebars_meaning.specs.Sites.{Site};
-ghost use Rattle.handlebars_meaning.specs.Means.{render_found, render_lone, render_lone_as};
-ghost use Rattle.handlebars_meaning.specs.Values.{HasName, HasValue, callee_name};
+ghost use Rattle.handlebars_semantics.specs.Occurrences.{Occurrence};
+ghost use Rattle.handlebars_semantics.specs.Means.{render_found, render_lone, render_lone_as};
+ghost use Rattle.handlebars_semantics.specs.Values.{HasName, HasValue, callee_name};
 ghost use Rattle.handlebars_expand.specs.Boxed.{answer_of, error_of};
 ghost use Rattle.handlebars_render.specs.Next.{ComesTo, Settles};
 ghost use Rattle.handlebars_expand.specs.PiecesView.{path_seen};
 ghost use Rattle.handlebars_expand.specs.Judgement.{InState};
 ghost use Rattle.handlebars_render.specs.Judgement.{AtMoment};
-ghost use Rattle.handlebars_expand.specs.View.{HasNodes, KeptIn, Stands, name_alone, setting_in, state_with, within};
+ghost use Rattle.handlebars_expand.specs.View.{HasNodes, CapturedIn, KnowsLocation, name_alone, setting_in, state_with, within};
 ghost use Rattle.handlebars_render.specs.View.{IsSame, held_in, moment};
 
 use crate::branch::not_an_index;
 use crate::next::{Next, to_call};
+use crate::output_mode::OutputMode;
 use crate::sink::Sink;
-use crate::telling::Telling;
 use crate::write::write_found;
 use handlebars_base::error::RenderErrorReason;
 use handlebars_base::json::path::Path;
@@ -47,19 +47,19 @@ use handlebars_template::template::{HelperTemplate, Parameter, Subexpression};
 use std::alloc::{AllocError, Global};
 use std::borrow::CowStr;
 
-/// An expression with no parameters and no pairs. Nothing is made for a name or a path. Most are paths with a value, so all
-/// else stays apart, and what it needs isn't made ready for them.
-pub fn settle_lone<'a, O, T: Telling<O>, P: Registered>(
+/// Settles an expression with no parameters and no hash arguments. Nothing is built for a name or a path. Most are paths with a
+/// value, so all else is in separate functions, and what those need isn't prepared for paths.
+pub fn settle_lone<'a, O, T: OutputMode<O>, P: Registered>(
     helper: &'a HelperTemplate,
     environment: &Environment<'_, 'a, P>,
     rc: &RenderContext,
     sink: &mut Sink<'_, O, T>,
 ) -> Result<Next<'a>, BoxedError>
     requires nodes { HasNodes environment.now rc.now }
-    ensures comes { is_value (call_view helper.now) ≡ true → (site : Site) → Stands T.way.asks environment.now site
-        → AtMoment T.way environment.now rc.now sink (λ before held. ComesTo
-        (setting_in P.parts environment.now) site false (call_view helper.now)
-        (render_lone site (call_view helper.now)) T.way.may_give before (answer_of result) held) }
+    ensures comes { is_value (call_view helper.now) ≡ true → (occurrence : Occurrence) → KnowsLocation T.mode.asks environment.now occurrence
+        → AtMoment T.mode environment.now rc.now sink (λ before held. ComesTo
+        (setting_in P.parts environment.now) occurrence false (call_view helper.now)
+        (render_lone occurrence (call_view helper.now)) T.mode.may_give before (answer_of result) held) }
     ensures same { IsSame sink.old sink.new }
 {
     match &helper.name {
@@ -72,9 +72,9 @@ pub fn settle_lone<'a, O, T: Telling<O>, P: Registered>(
     }
 }
 
-// A call in parentheses, which is made once.
+// Settles a call in parentheses, which is evaluated once.
 #[inline(never)]
-fn settle_inner<'a, O, T: Telling<O>, P: Registered>(
+fn settle_inner<'a, O, T: OutputMode<O>, P: Registered>(
     helper: &'a HelperTemplate,
     environment: &Environment<'_, 'a, P>,
     inner: &'a Subexpression,
@@ -83,9 +83,9 @@ fn settle_inner<'a, O, T: Telling<O>, P: Registered>(
 ) -> Result<Next<'a>, BoxedError>
     requires nodes { HasNodes environment.now rc.now }
     ensures comes { is_value (call_view helper.now) ≡ true → call_name (call_view helper.now) ≡ tree.subexpression
-        (subexpression_view inner.now) → (site : Site) → Stands T.way.asks environment.now site → AtMoment T.way environment.now rc.now sink
-        (λ before held. ComesTo (setting_in P.parts environment.now) site false (call_view helper.now)
-        (render_lone site (call_view helper.now)) T.way.may_give before (answer_of result) held) }
+        (subexpression_view inner.now) → (occurrence : Occurrence) → KnowsLocation T.mode.asks environment.now occurrence → AtMoment T.mode environment.now rc.now sink
+        (λ before held. ComesTo (setting_in P.parts environment.now) occurrence false (call_view helper.now)
+        (render_lone occurrence (call_view helper.now)) T.mode.may_give before (answer_of result) held) }
     ensures same { IsSame sink.old sink.new }
 {
     match inner_value(environment, rc, inner) {
@@ -94,7 +94,7 @@ fn settle_inner<'a, O, T: Telling<O>, P: Registered>(
     }
 }
 
-// A name that is no path has no value.
+// Settles a name that is no path, and so has no value.
 #[inline(never)]
 fn settle_name<'a, P: Registered>(
     helper: &'a HelperTemplate,
@@ -102,9 +102,9 @@ fn settle_name<'a, P: Registered>(
     text: &'a str,
     rc: &RenderContext,
 ) -> Result<Next<'a>, BoxedError>
-    ensures { is_value (call_view helper.now) ≡ true → call_name (call_view helper.now) ≡ tree.name text.now → (site : Site)
-        → InState P.parts environment.now rc.now (λ p s. Settles p site false (call_view helper.now)
-        (render_lone site (call_view helper.now)) s (answer_of result)) }
+    ensures { is_value (call_view helper.now) ≡ true → call_name (call_view helper.now) ≡ tree.name text.now → (occurrence : Occurrence)
+        → InState P.parts environment.now rc.now (λ p s. Settles p occurrence false (call_view helper.now)
+        (render_lone occurrence (call_view helper.now)) s (answer_of result)) }
 {
     match helper_named(environment.parts, rc, text) {
         Some(target) => to_call(
@@ -118,8 +118,8 @@ fn settle_name<'a, P: Registered>(
     }
 }
 
-// The value of a path is only looked at, also where a block has it, and its own path isn't told.
-fn settle_path<'a, O, T: Telling<O>, P: Registered>(
+// Settles a path. Its value is only borrowed, even if a scope frame holds it, and its full path isn't determined.
+fn settle_path<'a, O, T: OutputMode<O>, P: Registered>(
     helper: &'a HelperTemplate,
     environment: &Environment<'_, 'a, P>,
     path: &'a Path,
@@ -128,9 +128,9 @@ fn settle_path<'a, O, T: Telling<O>, P: Registered>(
 ) -> Result<Next<'a>, BoxedError>
     requires nodes { HasNodes environment.now rc.now }
     ensures comes { is_value (call_view helper.now) ≡ true → call_name (call_view helper.now) ≡ tree.path
-        (reference_of path.now) → (site : Site) → Stands T.way.asks environment.now site → AtMoment T.way environment.now rc.now sink
-        (λ before held. ComesTo (setting_in P.parts environment.now) site false (call_view helper.now)
-        (render_lone site (call_view helper.now)) T.way.may_give before (answer_of result) held) }
+        (reference_of path.now) → (occurrence : Occurrence) → KnowsLocation T.mode.asks environment.now occurrence → AtMoment T.mode environment.now rc.now sink
+        (λ before held. ComesTo (setting_in P.parts environment.now) occurrence false (call_view helper.now)
+        (render_lone occurrence (call_view helper.now)) T.mode.may_give before (answer_of result) held) }
     ensures same { IsSame sink.old sink.new }
 {
     match helper_named(environment.parts, rc, path.raw()) {
@@ -143,7 +143,7 @@ fn settle_path<'a, O, T: Telling<O>, P: Registered>(
         ),
         None => {
             if T::asks() {
-                return settle_told(helper, environment, path, rc, sink);
+                return settle_emitted(helper, environment, path, rc, sink);
             }
             match internal::reach(rc, environment.given.data(), path, environment.bases) {
                 Reached::Value(value) => settle_found(environment, value, None, rc, sink),
@@ -159,9 +159,9 @@ fn settle_path<'a, O, T: Telling<O>, P: Registered>(
     }
 }
 
-// The same where pieces are told: the value is found with its full path.
+// The same if pieces are emitted: the value is found with its full path.
 #[inline(never)]
-fn settle_told<'a, O, T: Telling<O>, P: Registered>(
+fn settle_emitted<'a, O, T: OutputMode<O>, P: Registered>(
     helper: &'a HelperTemplate,
     environment: &Environment<'_, 'a, P>,
     path: &'a Path,
@@ -169,12 +169,12 @@ fn settle_told<'a, O, T: Telling<O>, P: Registered>(
     sink: &mut Sink<'_, O, T>,
 ) -> Result<Next<'a>, BoxedError>
     requires nodes { HasNodes environment.now rc.now }
-    ensures comes { (site : Site) → Stands T.way.asks environment.now site
+    ensures comes { (occurrence : Occurrence) → KnowsLocation T.mode.asks environment.now occurrence
         → call_name (call_view helper.now) ≡ tree.path (reference_of path.now)
-        → AtMoment T.way environment.now rc.now sink
-        (λ before held. ComesTo (setting_in P.parts environment.now) site false (call_view helper.now)
-        (render_lone_as site (call_view helper.now) (name_alone (raw_of (reference_of path.now))) None)
-        T.way.may_give before (answer_of result) held) }
+        → AtMoment T.mode environment.now rc.now sink
+        (λ before held. ComesTo (setting_in P.parts environment.now) occurrence false (call_view helper.now)
+        (render_lone_as occurrence (call_view helper.now) (name_alone (raw_of (reference_of path.now))) None)
+        T.mode.may_give before (answer_of result) held) }
     ensures same { IsSame sink.old sink.new }
 {
     match internal::locate(rc, environment.given.data(), path, environment.bases) {
@@ -186,23 +186,23 @@ fn settle_told<'a, O, T: Telling<O>, P: Registered>(
     }
 }
 
-// A literal, or a call in parentheses, which was made once: its text is the name.
+// Settles a literal, or a call in parentheses that was evaluated once: its text is the name.
 #[inline(never)]
-fn settle_value<'a, O, T: Telling<O>, P: Registered>(
+fn settle_value<'a, O, T: OutputMode<O>, P: Registered>(
     helper: &'a HelperTemplate,
     environment: &Environment<'_, 'a, P>,
     value: ScopedJson<'a>,
     rc: &RenderContext,
     sink: &mut Sink<'_, O, T>,
 ) -> Result<Next<'a>, BoxedError>
-    ensures comes { is_value (call_view helper.now) ≡ true → (site : Site) → Stands T.way.asks environment.now site → (kept : KeptIn (within environment.now))
-        → HasName (setting_in P.parts environment.now) (state_with kept rc.now) (call_name (call_view helper.now))
+    ensures comes { is_value (call_view helper.now) ≡ true → (occurrence : Occurrence) → KnowsLocation T.mode.asks environment.now occurrence → (captured : CapturedIn (within environment.now))
+        → HasName (setting_in P.parts environment.now) (state_with captured rc.now) (call_name (call_view helper.now))
         (gives (callee_name (found_of value.entry)))
-        → HasValue (setting_in P.parts environment.now) (state_with kept rc.now) (call_name (call_view helper.now))
+        → HasValue (setting_in P.parts environment.now) (state_with captured rc.now) (call_name (call_view helper.now))
         (gives (found_of value.entry))
-        → ComesTo (setting_in P.parts environment.now) site false (call_view helper.now)
-        (render_lone site (call_view helper.now))
-        T.way.may_give (moment kept rc.now (held_in T.way sink.old)) (answer_of result) (held_in T.way sink.new) }
+        → ComesTo (setting_in P.parts environment.now) occurrence false (call_view helper.now)
+        (render_lone occurrence (call_view helper.now))
+        T.mode.may_give (moment captured rc.now (held_in T.mode sink.old)) (answer_of result) (held_in T.mode sink.new) }
     ensures same { IsSame sink.old sink.new }
 {
     let name = value.render(environment.alloc)?;
@@ -224,20 +224,20 @@ fn settle_value<'a, O, T: Telling<O>, P: Registered>(
     }
 }
 
-// Writes the value of an expression that no helper has the name of.
+// Writes the value of an expression whose name no helper has.
 #[inline(always)]
-fn settle_found<'a, O, T: Telling<O>, P: Registered>(
+fn settle_found<'a, O, T: OutputMode<O>, P: Registered>(
     environment: &Environment<'_, 'a, P>,
     value: &Json,
     path: Option<FullPath<'_>>,
     rc: &RenderContext,
     sink: &mut Sink<'_, O, T>,
 ) -> Result<Next<'a>, BoxedError>
-    ensures comes { (c : Call) (v : CallView) (found : Found) (site : Site) → Stands T.way.asks environment.now site → (kept : KeptIn (within environment.now))
-        → HasValue (setting_in P.parts environment.now) (state_with kept rc.now) (call_name c) (gives found)
-        → present_in found ≡ Some (view value.now) → (T.way.asks ≡ true → path_in found ≡ path_seen path.entry)
-        → ComesTo (setting_in P.parts environment.now) site false c (render_lone_as site c v None)
-        T.way.may_give (moment kept rc.now (held_in T.way sink.old)) (answer_of result) (held_in T.way sink.new) }
+    ensures comes { (c : Call) (v : CallView) (found : Found) (occurrence : Occurrence) → KnowsLocation T.mode.asks environment.now occurrence → (captured : CapturedIn (within environment.now))
+        → HasValue (setting_in P.parts environment.now) (state_with captured rc.now) (call_name c) (gives found)
+        → present_in found ≡ Some (view value.now) → (T.mode.asks ≡ true → path_in found ≡ path_seen path.entry)
+        → ComesTo (setting_in P.parts environment.now) occurrence false c (render_lone_as occurrence c v None)
+        T.mode.may_give (moment captured rc.now (held_in T.mode sink.old)) (answer_of result) (held_in T.mode sink.new) }
     ensures same { IsSame sink.old sink.new }
 {
     match write_found(environment, Some(value), path, rc, sink) {
@@ -246,7 +246,7 @@ fn settle_found<'a, O, T: Telling<O>, P: Registered>(
     }
 }
 
-// A missing value is refused in strict mode; else the hook is to be called, where there is one.
+// Settles a missing value. It fails in strict mode; otherwise the hook is to be called, if there is one.
 #[inline(never)]
 fn settle_missing<'a, P: Registered>(
     helper: &'a HelperTemplate,
@@ -254,8 +254,8 @@ fn settle_missing<'a, P: Registered>(
     name: CowStr<'a>,
     rc: &RenderContext,
 ) -> Result<Next<'a>, BoxedError>
-    ensures { (site : Site) → InState P.parts environment.now rc.now
-        (λ p s. Settles p site false (call_view helper.now) (render_found site (call_view helper.now)
+    ensures { (occurrence : Occurrence) → InState P.parts environment.now rc.now
+        (λ p s. Settles p occurrence false (call_view helper.now) (render_found occurrence (call_view helper.now)
         (name_alone (cow_str_bytes name.entry)) missing) s (answer_of result)) }
 {
     if environment.parts.strict() {
@@ -273,7 +273,7 @@ fn settle_missing<'a, P: Registered>(
     }
 }
 
-// The refusal of a missing value, by its text as written, where it has one.
+// The error for a missing value, with its text as written, if it has one.
 #[cold]
 #[inline(never)]
 fn missing_variable(alloc: Global, name: &Parameter) -> BoxedError

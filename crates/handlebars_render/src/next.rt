@@ -1,4 +1,4 @@
-//! What an expression or a block comes to before a helper is called.
+//! What an expression or a block reduces to before a helper is called.
 
 ghost use Rattle.std.specs.Prelude.{◌≡◌, Some, false, if◌then◌else◌, not, option_map};
 ghost use Rattle.std.specs.Cow.{cow_str_bytes};
@@ -7,58 +7,58 @@ ghost use Rattle.handlebars_base.specs.Reasons.{helper_not_found};
 ghost use Rattle.handlebars_base.specs.RenderRefusals.{plain_refusal};
 ghost use Rattle.handlebars_template.specs.Tree.{as_name, call_name};
 ghost use Rattle.handlebars_template.specs.TreeView.{call_view};
-ghost use Rattle.handlebars_meaning.specs.Sites.{Site};
-ghost use Rattle.handlebars_meaning.specs.Means.{render_call, render_expression, render_tag};
-ghost use Rattle.handlebars_meaning.specs.Values.{HasName};
-ghost use Rattle.handlebars_meaning.specs.State.{helper_for};
+ghost use Rattle.handlebars_semantics.specs.Occurrences.{Occurrence};
+ghost use Rattle.handlebars_semantics.specs.Means.{render_call, render_expression, render_tag};
+ghost use Rattle.handlebars_semantics.specs.Values.{HasName};
+ghost use Rattle.handlebars_semantics.specs.State.{helper_for};
 ghost use Rattle.handlebars_expand.specs.Boxed.{answer_of, error_of};
 ghost use Rattle.handlebars_render.specs.Next.{ComesTo, IsCall, Settles};
 ghost use Rattle.handlebars_expand.specs.Targets.{target_in};
 ghost use Rattle.handlebars_expand.specs.Judgement.{InState};
 ghost use Rattle.handlebars_render.specs.Judgement.{AtMoment};
-ghost use Rattle.handlebars_expand.specs.View.{HasNodes, Stands, called_view, setting_in, state_of};
+ghost use Rattle.handlebars_expand.specs.View.{HasNodes, KnowsLocation, called_view, setting_in, state_of};
 ghost use Rattle.handlebars_render.specs.View.{IsSame};
 
 use crate::branch::{branching, condition};
+use crate::data_node::settle_data_node;
 use crate::lone::settle_lone;
-use crate::place::settle_placed;
+use crate::output_mode::OutputMode;
 use crate::section::settle_section;
 use crate::sink::Sink;
-use crate::telling::Telling;
 use handlebars_expand::bound::{BoundCall, bind_boxed};
 use handlebars_expand::boxed::BoxedError;
 use handlebars_expand::called::Called;
 use handlebars_expand::context::RenderContext;
 use handlebars_expand::environment::Environment;
 use handlebars_expand::registered::{Registered, Target, helper_for};
-use handlebars_expand::value::{expand_as_name, pairs_values, params_values};
-use handlebars_scope::context::place::Place;
+use handlebars_expand::value::{expand_as_name, hash_values, params_values};
+use handlebars_scope::context::data_node::DataNode;
 use handlebars_scope::line::LineState;
 use handlebars_template::template::HelperTemplate;
 use std::borrow::CowStr;
 
-/// What an expression or a block comes to, once its name and its values are known. Most are lone values that are written, so
-/// what is left of others is in a box.
+/// What an expression or a block reduces to, once its name and its values are known. Most are lone values that are written, so
+/// what is left of others is boxed.
 #[derive(Drop)]
 pub enum Next<'a> {
-    /// All is done, and this is the line behind it.
+    /// Nothing is left to be done, and this is the state of the line after it.
     Done(LineState),
     /// The body of the call is to be rendered, or its inverse, in the bracket of a call.
     Branch(bool),
-    /// The body is to be rendered for each member of what stands here in the data, in the bracket of a call.
-    Each(Box<Place<'a>>),
-    /// The body is to be rendered in a block that stands here in the data, in the bracket of a call.
-    With(Box<Place<'a>>),
+    /// The body is to be rendered for each member of this node of the data, in the bracket of a call.
+    Each(Box<DataNode<'a>>),
+    /// The body is to be rendered in a scope frame at this node of the data, in the bracket of a call.
+    With(Box<DataNode<'a>>),
     /// A helper is to be called, in the bracket of a call.
     Call(Box<BoundCall<'a>>),
-    /// The hook of a missing value is to be called, in no bracket.
+    /// The hook of a missing value is to be called, without a bracket.
     Hook(Box<BoundCall<'a>>),
 }
 
-/// Writes a value, or finds the helper that is to be called for a block or an expression. Its caller recurses, and has no room
-/// for what it needs.
+/// Writes a value, or finds the helper that is to be called for a block or an expression. It is not inlined: its caller
+/// recurses, and takes no stack space for what it needs.
 #[inline(never)]
-pub fn settle_tag<'a, O, T: Telling<O>, P: Registered>(
+pub fn settle_tag<'a, O, T: OutputMode<O>, P: Registered>(
     helper: &'a HelperTemplate,
     environment: &Environment<'_, 'a, P>,
     block: bool,
@@ -66,9 +66,9 @@ pub fn settle_tag<'a, O, T: Telling<O>, P: Registered>(
     sink: &mut Sink<'_, O, T>,
 ) -> Result<Next<'a>, BoxedError>
     requires nodes { HasNodes environment.now rc.now }
-    ensures comes { (site : Site) → Stands T.way.asks environment.now site → AtMoment T.way environment.now rc.now sink
-        (λ before held. ComesTo (setting_in P.parts environment.now) site block (call_view helper.now)
-        (render_tag site block (call_view helper.now)) T.way.may_give before (answer_of result) held) }
+    ensures comes { (occurrence : Occurrence) → KnowsLocation T.mode.asks environment.now occurrence → AtMoment T.mode environment.now rc.now sink
+        (λ before held. ComesTo (setting_in P.parts environment.now) occurrence block (call_view helper.now)
+        (render_tag occurrence block (call_view helper.now)) T.mode.may_give before (answer_of result) held) }
     ensures same { IsSame sink.old sink.new }
 {
     if block {
@@ -78,16 +78,16 @@ pub fn settle_tag<'a, O, T: Telling<O>, P: Registered>(
     }
 }
 
-fn settle_expression<'a, O, T: Telling<O>, P: Registered>(
+fn settle_expression<'a, O, T: OutputMode<O>, P: Registered>(
     helper: &'a HelperTemplate,
     environment: &Environment<'_, 'a, P>,
     rc: &RenderContext,
     sink: &mut Sink<'_, O, T>,
 ) -> Result<Next<'a>, BoxedError>
     requires nodes { HasNodes environment.now rc.now }
-    ensures comes { (site : Site) → Stands T.way.asks environment.now site → AtMoment T.way environment.now rc.now sink
-        (λ before held. ComesTo (setting_in P.parts environment.now) site false (call_view helper.now)
-        (render_expression site (call_view helper.now)) T.way.may_give before (answer_of result) held) }
+    ensures comes { (occurrence : Occurrence) → KnowsLocation T.mode.asks environment.now occurrence → AtMoment T.mode environment.now rc.now sink
+        (λ before held. ComesTo (setting_in P.parts environment.now) occurrence false (call_view helper.now)
+        (render_expression occurrence (call_view helper.now)) T.mode.may_give before (answer_of result) held) }
     ensures same { IsSame sink.old sink.new }
 {
     if helper.is_value() {
@@ -99,7 +99,7 @@ fn settle_expression<'a, O, T: Telling<O>, P: Registered>(
 
 // ---- calls
 
-// A block, and an expression with parameters or pairs, calls the helper of its name, or the hook.
+// Settles a block, or an expression with parameters or hash arguments: it calls the helper of its name, or the hook.
 #[inline(never)]
 fn settle_call<'a, P: Registered>(
     helper: &'a HelperTemplate,
@@ -108,8 +108,8 @@ fn settle_call<'a, P: Registered>(
     rc: &RenderContext,
 ) -> Result<Next<'a>, BoxedError>
     requires nodes { HasNodes environment.now rc.now }
-    ensures { (site : Site) → InState P.parts environment.now rc.now
-        (λ p s. Settles p site block (call_view helper.now) (render_call site block (call_view helper.now)) s
+    ensures { (occurrence : Occurrence) → InState P.parts environment.now rc.now
+        (λ p s. Settles p occurrence block (call_view helper.now) (render_call occurrence block (call_view helper.now)) s
         (answer_of result)) }
 {
     if let Some(name) = helper.name.as_name() {
@@ -120,7 +120,7 @@ fn settle_call<'a, P: Registered>(
     settle_viewed(helper, environment, block, name, target, rc)
 }
 
-// A call whose name is written, and not made.
+// Settles a call whose name is written, and not computed.
 fn settle_named<'a, P: Registered>(
     helper: &'a HelperTemplate,
     environment: &Environment<'_, 'a, P>,
@@ -129,21 +129,21 @@ fn settle_named<'a, P: Registered>(
     rc: &RenderContext,
 ) -> Result<Next<'a>, BoxedError>
     requires nodes { HasNodes environment.now rc.now }
-    ensures { as_name (call_name (call_view helper.now)) ≡ Some name.now → (site : Site)
-        → InState P.parts environment.now rc.now (λ p s. Settles p site block (call_view helper.now)
-        (render_call site block (call_view helper.now)) s (answer_of result)) }
+    ensures { as_name (call_name (call_view helper.now)) ≡ Some name.now → (occurrence : Occurrence)
+        → InState P.parts environment.now rc.now (λ p s. Settles p occurrence block (call_view helper.now)
+        (render_call occurrence block (call_view helper.now)) s (answer_of result)) }
 {
     let target = helper_for(environment.parts, rc, block, name);
     match branching(helper, target) {
-        Some((wanted, path)) => match condition(environment, path, rc) {
-            Ok(truth) => Ok(Next::Branch(takes(wanted, truth))),
+        Some((expected, path)) => match condition(environment, path, rc) {
+            Ok(truth) => Ok(Next::Branch(takes(expected, truth))),
             Err(e) => Err(e),
         },
         None => settle_unbranched(helper, environment, block, name, target, rc),
     }
 }
 
-// A call by this written name, which has this helper, if any, and isn't of `if` or `unless` by a path.
+// Settles a call by this written name, which has this helper, if any, and isn't an `if` or `unless` by a path.
 fn settle_unbranched<'a, P: Registered>(
     helper: &'a HelperTemplate,
     environment: &Environment<'_, 'a, P>,
@@ -155,10 +155,10 @@ fn settle_unbranched<'a, P: Registered>(
     requires nodes { HasNodes environment.now rc.now }
     ensures { as_name (call_name (call_view helper.now)) ≡ Some name.now
         → option_map (target_in block name.now) target ≡ helper_for (P.parts environment.now.parts.now) (state_of rc.now) block name.now
-        → (site : Site) → InState P.parts environment.now rc.now (λ p s. Settles p site block (call_view helper.now)
-        (render_call site block (call_view helper.now)) s (answer_of result)) }
+        → (occurrence : Occurrence) → InState P.parts environment.now rc.now (λ p s. Settles p occurrence block (call_view helper.now)
+        (render_call occurrence block (call_view helper.now)) s (answer_of result)) }
 {
-    match settle_placed(helper, environment, target, rc) {
+    match settle_data_node(helper, environment, target, rc) {
         Some(next) => Ok(next),
         None => settle_viewed(
             helper,
@@ -171,14 +171,14 @@ fn settle_unbranched<'a, P: Registered>(
     }
 }
 
-// Whether the body is rendered, where that is wanted of a condition.
-fn takes(wanted: bool, truth: bool) -> bool
-    ensures { result ≡ if wanted then truth else not truth }
+// Whether the body is rendered, given the truth value that renders it and that of the condition.
+fn takes(expected: bool, truth: bool) -> bool
+    ensures { result ≡ if expected then truth else not truth }
 {
-    if wanted { truth } else { !truth }
+    if expected { truth } else { !truth }
 }
 
-// A call by this name, which has this helper, if any: its values are made before that is asked.
+// Settles a call by this name, which has this helper, if any. Its values are computed before the helper is asked.
 fn settle_viewed<'a, P: Registered>(
     helper: &'a HelperTemplate,
     environment: &Environment<'_, 'a, P>,
@@ -188,14 +188,14 @@ fn settle_viewed<'a, P: Registered>(
     rc: &RenderContext,
 ) -> Result<Next<'a>, BoxedError>
     requires nodes { HasNodes environment.now rc.now }
-    ensures { (site : Site) → InState P.parts environment.now rc.now
+    ensures { (occurrence : Occurrence) → InState P.parts environment.now rc.now
         (λ p s. HasName p s (call_name (call_view helper.now)) (gives (cow_str_bytes name.entry))
         → option_map (target_in block (cow_str_bytes name.entry)) target ≡ helper_for
         (P.parts environment.now.parts.now) s block (cow_str_bytes name.entry)
-        → Settles p site block (call_view helper.now) (render_call site block (call_view helper.now)) s (answer_of result)) }
+        → Settles p occurrence block (call_view helper.now) (render_call occurrence block (call_view helper.now)) s (answer_of result)) }
 {
     let params = params_values(environment, rc, &helper.params)?;
-    let hash = pairs_values(environment, rc, &helper.hash)?;
+    let hash = hash_values(environment, rc, &helper.hash)?;
     let call = Called { name, params, hash };
     match target {
         Some(target) => to_call(environment, rc, target, block, call),
@@ -203,7 +203,7 @@ fn settle_viewed<'a, P: Registered>(
     }
 }
 
-/// A helper is to be called, in the bracket of a call.
+/// Binds a call whose helper is to be called, in the bracket of a call.
 pub fn to_call<'a, P: Registered>(
     environment: &Environment<P>,
     rc: &RenderContext,

@@ -9,19 +9,19 @@ ghost use Rattle.handlebars_base.specs.Scoped.{data_in, found_of, is_constant};
 ghost use Rattle.handlebars_template.specs.Tree.{call_body, call_name, is_value, name};
 ghost use Rattle.handlebars_template.specs.TreeView.{call_view};
 ghost use Rattle.handlebars_helpers.specs.Choice.{lacks};
-ghost use Rattle.handlebars_helpers.specs.View.{kind_of};
-ghost use Rattle.handlebars_meaning.specs.Asks.{only};
-ghost use Rattle.handlebars_meaning.specs.Questions.{HasCalled};
-ghost use Rattle.handlebars_meaning.specs.Sections.{HasSection, section_call, section_kind};
-ghost use Rattle.handlebars_meaning.specs.Values.{is_literal};
+ghost use Rattle.handlebars_helpers.specs.View.{built_in_kind};
+ghost use Rattle.handlebars_semantics.specs.Asks.{only};
+ghost use Rattle.handlebars_semantics.specs.Questions.{HasCalled};
+ghost use Rattle.handlebars_semantics.specs.Sections.{HasSection, section_call, section_kind};
+ghost use Rattle.handlebars_semantics.specs.Values.{is_literal};
 ghost use Rattle.handlebars_expand.specs.Boxed.{answer_of};
 ghost use Rattle.handlebars_expand.specs.Judgement.{InState};
-ghost use Rattle.handlebars_render.specs.Places.{HasBody, IsNextThere, IsPlaceThere, TellsChoice};
+ghost use Rattle.handlebars_render.specs.DataNodes.{HasBody, IsNextThere, IsDataLookupThere, DeterminesChoice};
 ghost use Rattle.handlebars_render.specs.Sections.{HasSectionAt, LeavesSection, SettlesAs, section_choice};
 ghost use Rattle.handlebars_expand.specs.View.{HasNodes, called_view};
 
+use crate::data_node::{each_at, may_invert, with_at};
 use crate::next::{Next, to_call};
-use crate::place::{each_at, may_invert, with_at};
 use handlebars_base::json::path::{Path, read_path};
 use handlebars_base::json::value::{Json, PathAndJson, ScopedJson};
 use handlebars_expand::boxed::BoxedError;
@@ -31,12 +31,12 @@ use handlebars_expand::environment::Environment;
 use handlebars_expand::registered::{Registered, Target};
 use handlebars_expand::value::{find, written};
 use handlebars_helpers::built_in::BuiltIn;
-use handlebars_scope::context::place::Placed;
+use handlebars_scope::context::data_node::DataLookup;
 use handlebars_template::template::{HelperTemplate, Parameter};
 use std::alloc::Global;
 
-/// What a call comes to whose name has no helper and no hook: a block may be a section. Most calls have a helper, so this
-/// stays apart.
+/// Settles a call whose name has no helper and no hook: a block may be a section. Most calls have a helper, so this is not
+/// inlined.
 #[inline(never)]
 pub fn settle_section<'a, P: Registered>(
     helper: &'a HelperTemplate,
@@ -56,14 +56,14 @@ pub fn settle_section<'a, P: Registered>(
     }
 }
 
-// Whether a call without a helper may be a section: it is one of a block without parameters and pairs.
+// Whether a call without a helper may be a section: it is one of a block without parameters and hash arguments.
 fn may_be_section<P: Registered>(helper: &HelperTemplate, parts: &P, block: bool) -> bool
     ensures { result ≡ ((P.parts parts.now).sections && (block && is_value (call_view helper.now))) }
 {
     parts.sections() && block && helper.is_value()
 }
 
-// A section is by a path, or by a name that reads as one.
+// Settles a section, which is by a path, or by a name that parses as one.
 fn section<'a, P: Registered>(
     helper: &'a HelperTemplate,
     environment: &Environment<'_, 'a, P>,
@@ -82,7 +82,7 @@ fn section<'a, P: Registered>(
     }
 }
 
-// A section by a name, which is read as a path once, however many turns follow.
+// Settles a section by a name, which is parsed as a path once, however many iterations follow.
 fn section_named<'a, P: Registered>(
     helper: &'a HelperTemplate,
     environment: &Environment<'_, 'a, P>,
@@ -101,7 +101,7 @@ fn section_named<'a, P: Registered>(
     }
 }
 
-// A section acts on what its path leads to.
+// Settles a section by a path: it acts on what the path leads to.
 fn section_at<'a, P: Registered>(
     helper: &'a HelperTemplate,
     environment: &Environment<'_, 'a, P>,
@@ -114,14 +114,14 @@ fn section_at<'a, P: Registered>(
         (λ p s. SettlesAs p s true (call_view helper.now) (called_view call.entry)
         (HasSectionAt p s (call_name (call_view helper.now)) (called_view call.entry) (reference_of path.now)) (answer_of result)) }
 {
-    match placed_section(helper, environment, path, rc) {
+    match data_node_section(helper, environment, path, rc) {
         Some(next) => Ok(next),
         None => section_found(helper, environment, path, call, rc),
     }
 }
 
-// What a section with a body comes to, where it is known where its path leads in the data. One that is refused has none.
-fn placed_section<'a, P: Registered>(
+// What a section with a body reduces to, if it is known where its path leads in the data. There is none for one that fails.
+fn data_node_section<'a, P: Registered>(
     helper: &'a HelperTemplate,
     environment: &Environment<'_, 'a, P>,
     path: &Path,
@@ -134,9 +134,9 @@ fn placed_section<'a, P: Registered>(
     if lacks_body(helper) {
         return None;
     }
-    let placed = internal::place(rc, environment.given.data(), path, environment.bases);
+    let data_lookup = internal::data_node(rc, environment.given.data(), path, environment.bases);
     let inverse = may_invert(helper, environment.parts.strict());
-    acts_at(environment.alloc, placed, inverse)
+    acts_at(environment.alloc, data_lookup, inverse)
 }
 
 fn lacks_body(helper: &HelperTemplate) -> bool
@@ -145,26 +145,26 @@ fn lacks_body(helper: &HelperTemplate) -> bool
     helper.template.is_none()
 }
 
-// What a section with a body comes to there, where the inverse may be taken or not.
-fn acts_at<'a>(alloc: Global, placed: Placed<'a>, inverse: bool) -> Option<Next<'a>>
-    ensures chosen { IfSome result (TellsChoice placed.entry HasBody section_choice inverse) }
-    ensures there { (d : Data) → IsPlaceThere d placed.entry → IfSome result (IsNextThere d) }
+// What a section with a body reduces to at what the lookup found, where the inverse may be taken or not.
+fn acts_at<'a>(alloc: Global, data_lookup: DataLookup<'a>, inverse: bool) -> Option<Next<'a>>
+    ensures chosen { IfSome result (DeterminesChoice data_lookup.entry HasBody section_choice inverse) }
+    ensures there { (d : Data) → IsDataLookupThere d data_lookup.entry → IfSome result (IsNextThere d) }
 {
-    match placed {
-        Placed::At(place) => match place.node {
-            Json::Array(_) => each_at(alloc, Placed::At(place), inverse),
+    match data_lookup {
+        DataLookup::At(data_node) => match data_node.node {
+            Json::Array(_) => each_at(alloc, DataLookup::At(data_node), inverse),
             Json::Bool(truth) => Some(Next::Branch(*truth)),
-            Json::Null => with_at(alloc, Placed::At(place), inverse),
-            Json::Number(_) => with_at(alloc, Placed::At(place), inverse),
-            Json::String(_) => with_at(alloc, Placed::At(place), inverse),
-            Json::Object(_) => with_at(alloc, Placed::At(place), inverse),
+            Json::Null => with_at(alloc, DataLookup::At(data_node), inverse),
+            Json::Number(_) => with_at(alloc, DataLookup::At(data_node), inverse),
+            Json::String(_) => with_at(alloc, DataLookup::At(data_node), inverse),
+            Json::Object(_) => with_at(alloc, DataLookup::At(data_node), inverse),
         },
-        Placed::Nowhere => with_at(alloc, Placed::Nowhere, inverse),
-        Placed::Untold => None,
+        DataLookup::Nowhere => with_at(alloc, DataLookup::Nowhere, inverse),
+        DataLookup::Undetermined => None,
     }
 }
 
-// A section acts on the value that its path finds.
+// Settles a section that acts on the value that its path finds.
 fn section_found<'a, P: Registered>(
     helper: &'a HelperTemplate,
     environment: &Environment<'_, 'a, P>,
@@ -183,7 +183,7 @@ fn section_found<'a, P: Registered>(
     }
 }
 
-// A section over this value calls a built-in helper, which has the value as its one parameter.
+// Settles a section over this value: it calls a built-in helper, which has the value as its only parameter.
 fn section_over<'a, P: Registered>(
     helper: &'a HelperTemplate,
     environment: &Environment<'_, 'a, P>,
@@ -202,9 +202,9 @@ fn section_over<'a, P: Registered>(
     to_call(environment, rc, Target::Built(kind), true, call)
 }
 
-// By its value a section is `each`, `if` or `with`.
+// A section is `each`, `if` or `with`, by its value.
 fn section_kind(value: &ScopedJson) -> BuiltIn
-    ensures { kind_of result ≡ section_kind (data_in (found_of value.now)) }
+    ensures { built_in_kind result ≡ section_kind (data_in (found_of value.now)) }
 {
     match value.as_json() {
         Some(value) => kind_for(value),
@@ -213,7 +213,7 @@ fn section_kind(value: &ScopedJson) -> BuiltIn
 }
 
 fn kind_for(value: &Json) -> BuiltIn
-    ensures { kind_of result ≡ section_kind (view value.now) }
+    ensures { built_in_kind result ≡ section_kind (view value.now) }
 {
     match value {
         Json::Array(_) => BuiltIn::Each,

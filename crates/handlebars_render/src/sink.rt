@@ -5,13 +5,13 @@ ghost use Rattle.serde_json.specs.View.{view};
 ghost use Rattle.handlebars_base.specs.Shown.{escaped_if, shown};
 ghost use Rattle.handlebars_scope.specs.Indentation.{written_in};
 ghost use Rattle.handlebars_scope.specs.LineView.{line_of};
-ghost use Rattle.handlebars_expand.specs.PiecesView.{told_seen};
+ghost use Rattle.handlebars_expand.specs.PiecesView.{emitted_seen};
 ghost use Rattle.handlebars_render.specs.View.{IsSame, held_in};
-ghost use Rattle.handlebars_render.specs.Writes.{TellsPiece, WritesText};
+ghost use Rattle.handlebars_render.specs.Writes.{EmitsPiece, WritesText};
 ghost use Rattle.handlebars_expand.specs.Boxed.{answer_of};
 
-use crate::fault::told_fault;
-use crate::telling::Telling;
+use crate::output_mode::OutputMode;
+use crate::write_error::reported_fault;
 use handlebars_base::json::value::{Json, write_value};
 use handlebars_base::output::Output;
 use handlebars_expand::ahead::Ahead;
@@ -22,7 +22,7 @@ use handlebars_scope::line::LineState;
 use std::alloc::Global;
 use std::marker::PhantomData;
 
-/// Where a rendering writes: to the output, in some way, or to what is rendered ahead for partial blocks. So the cycle of
+/// Where a rendering writes: to the output, in an output mode, or to what is rendered ahead for partial blocks. So the cycle of
 /// rendering has one type of output.
 #[derive(Drop)]
 pub enum Sink<'o, O, T> {
@@ -30,32 +30,32 @@ pub enum Sink<'o, O, T> {
     Ahead(&'o mut Ahead),
 }
 
-// What is written here goes straight to one of the two: which of them it is, is asked once for a text, however many
-// writes it takes. Each way tells by itself what its write came to, in a box: where they met in one `Result` of an error of
-// the system, each write copied its 96 bytes.
-impl<'o, O, T: Telling<O>> Sink<'o, O, T> {
-    /// Writes a text: the word of a boolean helper, whose fault is told by its text, or another one.
+// What is written here goes straight to one of the two. Which of them it is, is matched once for a text, however many writes
+// the text takes. Each branch boxes the error of its own write: when the branches met in one `Result` with an `io::Error`, each
+// write copied its 96 bytes.
+impl<'o, O, T: OutputMode<O>> Sink<'o, O, T> {
+    /// Writes a text: the text of a boolean helper, whose write error is reported by its text, or another text.
     #[inline(always)]
     pub(crate) fn write(
         &mut self,
         alloc: Global,
-        at_word: bool,
+        at_boolean_text: bool,
         text: &str,
     ) -> Result<(), BoxedError>
-        requires untold { T.way.asks ≡ false }
-        ensures writes { WritesText text.now at_word T.way.may_give (held_in T.way self.old) (answer_of result) (held_in T.way self.new) }
+        requires text_only { T.mode.asks ≡ false }
+        ensures writes { WritesText text.now at_boolean_text T.mode.may_give (held_in T.mode self.old) (answer_of result) (held_in T.mode self.new) }
         ensures same { IsSame self.old self.new }
     {
         match self {
-            Sink::Out(out, _) => T::write(alloc, at_word, &mut **out, text),
+            Sink::Out(out, _) => T::write(alloc, at_boolean_text, &mut **out, text),
             Sink::Ahead(ahead) => match ahead.text.write(text) {
                 Ok(()) => Ok(()),
-                Err(fault) => Err(told_fault(alloc, at_word, fault)),
+                Err(write_error) => Err(reported_fault(alloc, at_boolean_text, write_error)),
             },
         }
     }
 
-    /// Writes what a value is rendered as, with entities or without.
+    /// Writes the text that a value is rendered as, with entities or without.
     #[inline(always)]
     pub(crate) fn write_value(
         &mut self,
@@ -63,16 +63,16 @@ impl<'o, O, T: Telling<O>> Sink<'o, O, T> {
         value: &Json,
         entities: bool,
     ) -> Result<(), BoxedError>
-        requires untold { T.way.asks ≡ false }
-        ensures writes { WritesText (shown entities (view value.now)) false T.way.may_give
-            (held_in T.way self.old) (answer_of result) (held_in T.way self.new) }
+        requires text_only { T.mode.asks ≡ false }
+        ensures writes { WritesText (shown entities (view value.now)) false T.mode.may_give
+            (held_in T.mode self.old) (answer_of result) (held_in T.mode self.new) }
         ensures same { IsSame self.old self.new }
     {
         match self {
             Sink::Out(out, _) => T::write_value(alloc, &mut **out, value, entities),
             Sink::Ahead(ahead) => match write_value(&mut ahead.text, value, entities) {
                 Ok(()) => Ok(()),
-                Err(fault) => Err(told_fault(alloc, false, fault)),
+                Err(write_error) => Err(reported_fault(alloc, false, write_error)),
             },
         }
     }
@@ -86,9 +86,9 @@ impl<'o, O, T: Telling<O>> Sink<'o, O, T> {
         indent: &str,
         entities: bool,
     ) -> Result<(), BoxedError>
-        requires untold { T.way.asks ≡ false }
-        ensures writes { WritesText (written_in indent.now (line_of line) (escaped_if entities text.now)) false T.way.may_give
-            (held_in T.way self.old) (answer_of result) (held_in T.way self.new) }
+        requires text_only { T.mode.asks ≡ false }
+        ensures writes { WritesText (written_in indent.now (line_of line) (escaped_if entities text.now)) false T.mode.may_give
+            (held_in T.mode self.old) (answer_of result) (held_in T.mode self.new) }
         ensures same { IsSame self.old self.new }
     {
         match self {
@@ -98,28 +98,28 @@ impl<'o, O, T: Telling<O>> Sink<'o, O, T> {
             Sink::Ahead(ahead) => {
                 match write_in_line(line, text, indent, entities, &mut ahead.text) {
                     Ok(()) => Ok(()),
-                    Err(fault) => Err(told_fault(alloc, false, fault)),
+                    Err(write_error) => Err(reported_fault(alloc, false, write_error)),
                 }
             }
         }
     }
 
-    /// Hands over a piece: the word of a boolean helper, or another one.
-    pub(crate) fn tell(
+    /// Emits a piece: the text of a boolean helper, or another piece.
+    pub(crate) fn emit(
         &mut self,
         alloc: Global,
-        at_word: bool,
+        at_boolean_text: bool,
         text: &str,
         origin: &Origin<'_>,
     ) -> Result<(), BoxedError>
-        requires told { T.way.asks ≡ true }
-        ensures tells { TellsPiece (told_seen text.now origin.now) at_word T.way.may_give
-            (held_in T.way self.old) (answer_of result) (held_in T.way self.new) }
+        requires emitted { T.mode.asks ≡ true }
+        ensures emits { EmitsPiece (emitted_seen text.now origin.now) at_boolean_text T.mode.may_give
+            (held_in T.mode self.old) (answer_of result) (held_in T.mode self.new) }
         ensures same { IsSame self.old self.new }
     {
         match self {
-            Sink::Out(out, _) => T::tell(alloc, at_word, &mut **out, text, origin),
-            Sink::Ahead(ahead) => match ahead.keep(alloc, text, origin) {
+            Sink::Out(out, _) => T::emit(alloc, at_boolean_text, &mut **out, text, origin),
+            Sink::Ahead(ahead) => match ahead.capture(alloc, text, origin) {
                 Ok(()) => Ok(()),
                 Err(_) => Err(BoxedError::OutOfMemory),
             },

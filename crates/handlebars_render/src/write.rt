@@ -1,4 +1,4 @@
-//! Writing texts and values where the rendering writes, by the line's state and the indentation in force.
+//! Writing texts and values to the sink, by the state of the line and the indentation in force.
 
 ghost use Rattle.std.specs.Prelude.{◌≡◌, ◌∷◌, [], ℕ, IfOk, List, OnErr, Some, false, option_map, string_bytes, true, unwrap_or};
 ghost use Rattle.serde_json.specs.Data.{null, number, unsigned};
@@ -7,28 +7,28 @@ ghost use Rattle.handlebars_base.specs.Scoped as scoped;
 ghost use Rattle.handlebars_base.specs.Scoped.{Found, path_in, present_in};
 ghost use Rattle.handlebars_base.specs.Shown.{escaped_if, shown};
 ghost use Rattle.handlebars_base.specs.Values as values;
-ghost use Rattle.handlebars_helpers.specs.Escaping.{by_own};
+ghost use Rattle.handlebars_helpers.specs.Escaping.{by_user};
 ghost use Rattle.handlebars_helpers.specs.EscapeView.{escaping_of};
-ghost use Rattle.handlebars_helpers.specs.OwnView.{IsOneOf};
-ghost use Rattle.handlebars_meaning.specs.Pieces.{Piece, of_step, of_text, of_word, pieces_of};
-ghost use Rattle.handlebars_meaning.specs.Sites.{Site};
-ghost use Rattle.handlebars_meaning.specs.Writing as meaning;
-ghost use Rattle.handlebars_meaning.specs.Writing.{rendered_if_any};
+ghost use Rattle.handlebars_helpers.specs.UserView.{IsOneOf};
+ghost use Rattle.handlebars_semantics.specs.Pieces.{Piece, of_step, of_text, of_boolean_text, pieces_of};
+ghost use Rattle.handlebars_semantics.specs.Occurrences.{Occurrence};
+ghost use Rattle.handlebars_semantics.specs.Writing as meaning;
+ghost use Rattle.handlebars_semantics.specs.Writing.{rendered_if_any};
 ghost use Rattle.handlebars_expand.specs.Boxed.{answer_of};
 ghost use Rattle.handlebars_expand.specs.PiecesView.{path_seen};
 ghost use Rattle.handlebars_render.specs.Shows.{entities_by};
-ghost use Rattle.handlebars_render.specs.Judgement.{AtMoment, CarriesWith};
-ghost use Rattle.handlebars_expand.specs.View.{AreKept, IsKept, KeptIn, Stands, Within, setting_in, state_of, within};
-ghost use Rattle.handlebars_render.specs.View.{CarriesOn, IsSame, first_moment, held_in, moment};
-ghost use Rattle.handlebars_render.specs.Writes.{Puts, PutsText, TellsLine, WritesAsIs, WritesText};
+ghost use Rattle.handlebars_render.specs.Judgement.{AtMoment, RefinesWith};
+ghost use Rattle.handlebars_expand.specs.View.{AreCaptured, IsUnchanged, CapturedIn, KnowsLocation, Within, setting_in, state_of, within};
+ghost use Rattle.handlebars_render.specs.View.{RefinesProg, IsSame, first_moment, held_in, moment};
+ghost use Rattle.handlebars_render.specs.Writes.{Puts, PutsText, ReturnsLine, WritesAsIs, WritesText};
 
+use crate::emit::{emit_boolean_text, emit_captured, emit_step, emit_text, emit_value};
+use crate::output_mode::OutputMode;
 use crate::sink::Sink;
-use crate::tell::{tell_kept, tell_step, tell_text, tell_value, tell_word};
-use crate::telling::Telling;
 use handlebars_base::error::RenderError;
 use handlebars_base::json::value::{Json, JsonRender};
-use handlebars_base::output::{Output, output_fault};
-use handlebars_expand::ahead::Kept;
+use handlebars_base::output::{Output, output_error};
+use handlebars_expand::ahead::Captured;
 use handlebars_expand::boxed::BoxedError;
 use handlebars_expand::context::{RenderContext, internal};
 use handlebars_expand::environment::Environment;
@@ -40,7 +40,11 @@ use handlebars_scope::line::LineState;
 use serde_json::Number;
 use std::alloc::{AllocError, Global};
 
-/// Writes a text with no indentation, and takes note of the line behind it. After a fault the context is as it was.
+/// Writes a text with no indentation, and updates the state of the line.
+///
+/// # Errors
+///
+/// Fails if the output does, or if memory runs out. The context is then unchanged. A prefix of the text may have been written.
 pub fn indent_aware_write<O: Output>(
     text: &str,
     rc: &mut RenderContext,
@@ -48,35 +52,35 @@ pub fn indent_aware_write<O: Output>(
 ) -> Result<(), RenderError>
     ensures puts { PutsText text.now O.may_give (first_moment rc.old (O.held out.old)) result
         (first_moment rc.new (O.held out.new)) }
-    ensures kept { IsKept rc.old rc.new }
-    ensures fault { OnErr result (rc.new ≡ rc.old) }
+    ensures unchanged { IsUnchanged rc.old rc.new }
+    ensures write_error { OnErr result (rc.new ≡ rc.old) }
 {
     match out.write(text) {
         Ok(()) => {
             internal::pass_text(rc, text);
             Ok(())
         }
-        Err(fault) => Err(output_fault(fault)),
+        Err(write_error) => Err(output_error(write_error)),
     }
 }
 
 // ---- texts
 
-/// Writes a text, and takes note of the line behind it.
-pub(super) fn write_text<O, T: Telling<O>, P>(
+/// Writes a text, and updates the state of the line.
+pub(super) fn write_text<O, T: OutputMode<O>, P>(
     environment: &Environment<P>,
     text: &str,
     rc: &mut RenderContext,
     sink: &mut Sink<'_, O, T>,
 ) -> Result<(), BoxedError>
-    ensures puts { (site : Site) → Stands T.way.asks environment.now site → (kept : KeptIn (within environment.now))
-        → Puts (of_text site) text.now T.way.may_give
-        (moment kept rc.old (held_in T.way sink.old)) (answer_of result) (moment kept rc.new (held_in T.way sink.new)) }
+    ensures puts { (occurrence : Occurrence) → KnowsLocation T.mode.asks environment.now occurrence → (captured : CapturedIn (within environment.now))
+        → Puts (of_text occurrence) text.now T.mode.may_give
+        (moment captured rc.old (held_in T.mode sink.old)) (answer_of result) (moment captured rc.new (held_in T.mode sink.new)) }
     ensures same { IsSame sink.old sink.new }
-    ensures kept { IsKept rc.old rc.new }
+    ensures unchanged { IsUnchanged rc.old rc.new }
 {
     if T::asks() {
-        return match tell_text(environment, PieceKind::TemplateText, None, text, rc, sink) {
+        return match emit_text(environment, PieceKind::TemplateText, None, text, rc, sink) {
             Ok(line) => {
                 internal::set_line(rc, line);
                 Ok(())
@@ -85,7 +89,7 @@ pub(super) fn write_text<O, T: Telling<O>, P>(
         };
     }
     match environment.indent {
-        // As most are.
+        // As most texts are: without an indentation.
         None => match write_as_is(environment.alloc, text, sink) {
             Ok(()) => {
                 internal::pass_text(rc, text);
@@ -103,10 +107,10 @@ pub(super) fn write_text<O, T: Telling<O>, P>(
     }
 }
 
-// Writes a text under an indentation, with entities or without, and answers the line behind it.
+// Writes a text under an indentation, with entities or without, and returns the state of the line after it.
 #[cold]
 #[inline(never)]
-fn write_text_under<O, T: Telling<O>>(
+fn write_text_under<O, T: OutputMode<O>>(
     alloc: Global,
     entities: bool,
     text: &str,
@@ -114,42 +118,42 @@ fn write_text_under<O, T: Telling<O>>(
     rc: &RenderContext,
     sink: &mut Sink<'_, O, T>,
 ) -> Result<LineState, BoxedError>
-    requires untold { T.way.asks ≡ false }
-    ensures puts { (a : Within) (kept : KeptIn a) → a.indent ≡ Some indent.now
-        → TellsLine (PutsText (escaped_if entities text.now) T.way.may_give) (moment kept rc.now (held_in T.way sink.old))
-        (answer_of result) (held_in T.way sink.new) }
+    requires text_only { T.mode.asks ≡ false }
+    ensures puts { (a : Within) (captured : CapturedIn a) → a.indent ≡ Some indent.now
+        → ReturnsLine (PutsText (escaped_if entities text.now) T.mode.may_give) (moment captured rc.now (held_in T.mode sink.old))
+        (answer_of result) (held_in T.mode sink.new) }
     ensures same { IsSame sink.old sink.new }
 {
     match sink.write_in_line(alloc, internal::line(rc), text, indent, entities) {
         // No entity ends a line.
-        Ok(()) => Ok(internal::line(rc).behind(text)),
+        Ok(()) => Ok(internal::line(rc).after(text)),
         Err(e) => Err(e),
     }
 }
 
 // ---- values
 
-/// Writes a value, rendered, and escaped as the registry has it where escaping is on, and answers the line behind
-/// it. The value may be one of a block, so the context is left to the caller.
+/// Writes a value, rendered, and escaped as the registry says if escaping is on. Returns the state of the line after it. A
+/// scope frame may hold the value, so the context is left to the caller.
 #[inline(always)]
-pub(super) fn write_found<O, T: Telling<O>, P: Registered>(
+pub(super) fn write_found<O, T: OutputMode<O>, P: Registered>(
     environment: &Environment<P>,
     value: Option<&Json>,
     path: Option<FullPath<'_>>,
     rc: &RenderContext,
     sink: &mut Sink<'_, O, T>,
 ) -> Result<LineState, BoxedError>
-    ensures shows { (site : Site) → Stands T.way.asks environment.now site → (kept : KeptIn (within environment.now)) (found : Found)
+    ensures shows { (occurrence : Occurrence) → KnowsLocation T.mode.asks environment.now occurrence → (captured : CapturedIn (within environment.now)) (found : Found)
         → rendered_if_any (present_in found) ≡ rendered_if_any (option_map (λ v. view v.now) value.entry)
-        → (T.way.asks ≡ true → path_in found ≡ path_seen path.entry)
-        → TellsLine (CarriesOn (setting_in P.parts environment.now) (meaning.write_value site found) T.way.may_give)
-        (moment kept rc.now (held_in T.way sink.old)) (answer_of result) (held_in T.way sink.new) }
+        → (T.mode.asks ≡ true → path_in found ≡ path_seen path.entry)
+        → ReturnsLine (RefinesProg (setting_in P.parts environment.now) (meaning.write_value occurrence found) T.mode.may_give)
+        (moment captured rc.now (held_in T.mode sink.old)) (answer_of result) (held_in T.mode sink.new) }
     ensures same { IsSame sink.old sink.new }
 {
     match entities_by(environment.parts.escape(), internal::escapes(rc)) {
         Some(entities) => {
             if T::asks() {
-                return tell_value(environment, entities, value, path, rc, sink);
+                return emit_value(environment, entities, value, path, rc, sink);
             }
             write_by(environment, entities, value, rc, sink)
         }
@@ -157,7 +161,7 @@ pub(super) fn write_found<O, T: Telling<O>, P: Registered>(
     }
 }
 
-// Whether entities are written, where no escape function has to be asked.
+// Whether entities are written, if no escape function has to be asked.
 #[inline(always)]
 fn entities_by(escaping: Escaping, escapes: bool) -> Option<bool>
     ensures { result ≡ entities_by (escaping_of escaping) escapes }
@@ -169,19 +173,19 @@ fn entities_by(escaping: Escaping, escapes: bool) -> Option<bool>
     }
 }
 
-// Writes a value, with entities or without; nothing where there is none.
+// Writes a value, with entities or without, or nothing if there is no value.
 #[inline(always)]
-fn write_by<O, T: Telling<O>, P>(
+fn write_by<O, T: OutputMode<O>, P>(
     environment: &Environment<P>,
     entities: bool,
     value: Option<&Json>,
     rc: &RenderContext,
     sink: &mut Sink<'_, O, T>,
 ) -> Result<LineState, BoxedError>
-    requires untold { T.way.asks ≡ false }
-    ensures puts { AtMoment T.way environment.now rc.now sink
-        (λ before held. TellsLine (PutsText (escaped_if entities (rendered_if_any (option_map (λ v. view v.now) value.entry)))
-        T.way.may_give) before (answer_of result) held) }
+    requires text_only { T.mode.asks ≡ false }
+    ensures puts { AtMoment T.mode environment.now rc.now sink
+        (λ before held. ReturnsLine (PutsText (escaped_if entities (rendered_if_any (option_map (λ v. view v.now) value.entry)))
+        T.mode.may_give) before (answer_of result) held) }
     ensures same { IsSame sink.old sink.new }
 {
     match value {
@@ -190,32 +194,32 @@ fn write_by<O, T: Telling<O>, P>(
     }
 }
 
-// Without an indentation piece by piece.
+// Writes a value. Without an indentation it is written piece by piece.
 #[inline(always)]
-fn write_value<O, T: Telling<O>, P>(
+fn write_value<O, T: OutputMode<O>, P>(
     environment: &Environment<P>,
     entities: bool,
     value: &Json,
     rc: &RenderContext,
     sink: &mut Sink<'_, O, T>,
 ) -> Result<LineState, BoxedError>
-    requires untold { T.way.asks ≡ false }
-    ensures puts { AtMoment T.way environment.now rc.now sink
-        (λ before held. TellsLine (PutsText (shown entities (view value.now)) T.way.may_give) before (answer_of result) held) }
+    requires text_only { T.mode.asks ≡ false }
+    ensures puts { AtMoment T.mode environment.now rc.now sink
+        (λ before held. ReturnsLine (PutsText (shown entities (view value.now)) T.mode.may_give) before (answer_of result) held) }
     ensures same { IsSame sink.old sink.new }
 {
     match environment.indent {
         Some(indent) => write_value_under(environment.alloc, entities, value, indent, rc, sink),
         None => match sink.write_value(environment.alloc, value, entities) {
-            Ok(()) => Ok(internal::line(rc).behind_value(value)),
+            Ok(()) => Ok(internal::line(rc).after_value(value)),
             Err(e) => Err(e),
         },
     }
 }
 
-// Under an indentation a text is written line by line. Another value is rendered first.
+// Writes a value under an indentation: a text is written line by line, and another value is rendered first.
 #[inline(never)]
-fn write_value_under<O, T: Telling<O>>(
+fn write_value_under<O, T: OutputMode<O>>(
     alloc: Global,
     entities: bool,
     value: &Json,
@@ -223,10 +227,10 @@ fn write_value_under<O, T: Telling<O>>(
     rc: &RenderContext,
     sink: &mut Sink<'_, O, T>,
 ) -> Result<LineState, BoxedError>
-    requires untold { T.way.asks ≡ false }
-    ensures puts { (a : Within) (kept : KeptIn a) → a.indent ≡ Some indent.now
-        → TellsLine (PutsText (shown entities (view value.now)) T.way.may_give) (moment kept rc.now (held_in T.way sink.old))
-        (answer_of result) (held_in T.way sink.new) }
+    requires text_only { T.mode.asks ≡ false }
+    ensures puts { (a : Within) (captured : CapturedIn a) → a.indent ≡ Some indent.now
+        → ReturnsLine (PutsText (shown entities (view value.now)) T.mode.may_give) (moment captured rc.now (held_in T.mode sink.old))
+        (answer_of result) (held_in T.mode sink.new) }
     ensures same { IsSame sink.old sink.new }
 {
     match value {
@@ -238,28 +242,28 @@ fn write_value_under<O, T: Telling<O>>(
     }
 }
 
-// Writes what the escape function of one's own answers for a value.
+// Writes what the user-defined escape function answers for a value.
 #[inline(never)]
-fn write_escaped<O, T: Telling<O>, P: Registered>(
+fn write_escaped<O, T: OutputMode<O>, P: Registered>(
     environment: &Environment<P>,
     value: Option<&Json>,
     path: Option<FullPath<'_>>,
     rc: &RenderContext,
     sink: &mut Sink<'_, O, T>,
 ) -> Result<LineState, BoxedError>
-    ensures shows { (site : Site) → Stands T.way.asks environment.now site → (kept : KeptIn (within environment.now)) (found : Found)
+    ensures shows { (occurrence : Occurrence) → KnowsLocation T.mode.asks environment.now occurrence → (captured : CapturedIn (within environment.now)) (found : Found)
         → rendered_if_any (present_in found) ≡ rendered_if_any (option_map (λ v. view v.now) value.entry)
-        → (T.way.asks ≡ true → path_in found ≡ path_seen path.entry)
-        → by_own ≡ (P.parts environment.now.parts.now).escape → (state_of rc.now).escapes ≡ true
-        → TellsLine (CarriesOn (setting_in P.parts environment.now) (meaning.write_value site found) T.way.may_give)
-        (moment kept rc.now (held_in T.way sink.old)) (answer_of result) (held_in T.way sink.new) }
+        → (T.mode.asks ≡ true → path_in found ≡ path_seen path.entry)
+        → by_user ≡ (P.parts environment.now.parts.now).escape → (state_of rc.now).escapes ≡ true
+        → ReturnsLine (RefinesProg (setting_in P.parts environment.now) (meaning.write_value occurrence found) T.mode.may_give)
+        (moment captured rc.now (held_in T.mode sink.old)) (answer_of result) (held_in T.mode sink.new) }
     ensures same { IsSame sink.old sink.new }
 {
     match escaped(environment, value) {
         Ok(text) => {
             if T::asks() {
                 let kind = PieceKind::EscapedValue;
-                return tell_text(environment, kind, path, text.as_str(), rc, sink);
+                return emit_text(environment, kind, path, text.as_str(), rc, sink);
             }
             write_line(environment, text.as_str(), rc, sink)
         }
@@ -267,41 +271,41 @@ fn write_escaped<O, T: Telling<O>, P: Registered>(
     }
 }
 
-// Writes what the escape function answered, and answers the line behind it.
-fn write_line<O, T: Telling<O>, P>(
+// Writes what the escape function answered, and returns the state of the line after it.
+fn write_line<O, T: OutputMode<O>, P>(
     environment: &Environment<P>,
     answer: &str,
     rc: &RenderContext,
     sink: &mut Sink<'_, O, T>,
 ) -> Result<LineState, BoxedError>
-    requires untold { T.way.asks ≡ false }
-    ensures puts { AtMoment T.way environment.now rc.now sink
-        (λ before held. TellsLine (PutsText answer.now T.way.may_give) before (answer_of result) held) }
+    requires text_only { T.mode.asks ≡ false }
+    ensures puts { AtMoment T.mode environment.now rc.now sink
+        (λ before held. ReturnsLine (PutsText answer.now T.mode.may_give) before (answer_of result) held) }
     ensures same { IsSame sink.old sink.new }
 {
     match environment.indent {
         None => match write_as_is(environment.alloc, answer, sink) {
-            Ok(()) => Ok(internal::line(rc).behind(answer)),
+            Ok(()) => Ok(internal::line(rc).after(answer)),
             Err(e) => Err(e),
         },
         Some(indent) => write_text_under(environment.alloc, false, answer, indent, rc, sink),
     }
 }
 
-// What the escape function of one's own answers for the whole text of a value. It is asked once, also where that
+// What the user-defined escape function answers for the whole text of a value. It is asked once, also where that
 // is empty.
 fn escaped<P: Registered>(
     environment: &Environment<P>,
     value: Option<&Json>,
 ) -> Result<String, RenderError>
-    ensures { IsOneOf ((P.parts environment.now.parts.now).own_escape
+    ensures { IsOneOf ((P.parts environment.now.parts.now).user_escape
         (rendered_if_any (option_map (λ v. view v.now) value.entry))) string_bytes result }
 {
     let text = whole(environment.alloc, value)?;
     environment.parts.escaped(text.as_str())
 }
 
-// The text of a value, and none where there is none.
+// The text of a value, which is empty if there is no value.
 fn whole(alloc: Global, value: Option<&Json>) -> Result<String, AllocError>
     ensures { IfOk result (λ text. string_bytes text ≡ rendered_if_any (option_map (λ v. view v.now) value.entry)) }
 {
@@ -311,17 +315,17 @@ fn whole(alloc: Global, value: Option<&Json>) -> Result<String, AllocError>
     }
 }
 
-/// Writes a value that a helper chose, as one that has no path; a missing one counts as null.
-pub(super) fn write_chosen<O, T: Telling<O>, P: Registered>(
+/// Writes a value that a helper chose, as one that has no path. A missing value counts as null.
+pub(super) fn write_chosen<O, T: OutputMode<O>, P: Registered>(
     environment: &Environment<P>,
     value: Option<&Json>,
     rc: &mut RenderContext,
     sink: &mut Sink<'_, O, T>,
 ) -> Result<(), BoxedError>
-    ensures shows { (site : Site) → Stands T.way.asks environment.now site → (kept : KeptIn (within environment.now))
-        → CarriesWith P.parts T.way environment.now rc sink result kept (meaning.write_value site (scoped.value (unwrap_or (option_map (λ v. view v.now) value.entry) null))) }
+    ensures shows { (occurrence : Occurrence) → KnowsLocation T.mode.asks environment.now occurrence → (captured : CapturedIn (within environment.now))
+        → RefinesWith P.parts T.mode environment.now rc sink result captured (meaning.write_value occurrence (scoped.value (unwrap_or (option_map (λ v. view v.now) value.entry) null))) }
     ensures same { IsSame sink.old sink.new }
-    ensures kept { IsKept rc.old rc.new }
+    ensures unchanged { IsUnchanged rc.old rc.new }
 {
     match write_found(environment, value, None, rc, sink) {
         Ok(line) => {
@@ -333,92 +337,92 @@ pub(super) fn write_chosen<O, T: Telling<O>, P: Registered>(
 }
 
 /// Writes a number that a helper chose.
-pub(super) fn write_count<O, T: Telling<O>, P: Registered>(
+pub(super) fn write_count<O, T: OutputMode<O>, P: Registered>(
     environment: &Environment<P>,
     count: usize,
     rc: &mut RenderContext,
     sink: &mut Sink<'_, O, T>,
 ) -> Result<(), BoxedError>
-    ensures shows { (site : Site) → Stands T.way.asks environment.now site → (kept : KeptIn (within environment.now))
-        → CarriesWith P.parts T.way environment.now rc sink result kept (meaning.write_value site (scoped.value (number (unsigned count)))) }
+    ensures shows { (occurrence : Occurrence) → KnowsLocation T.mode.asks environment.now occurrence → (captured : CapturedIn (within environment.now))
+        → RefinesWith P.parts T.mode environment.now rc sink result captured (meaning.write_value occurrence (scoped.value (number (unsigned count)))) }
     ensures same { IsSame sink.old sink.new }
-    ensures kept { IsKept rc.old rc.new }
+    ensures unchanged { IsUnchanged rc.old rc.new }
 {
     let value = Json::Number(Number::from(count));
     write_chosen(environment, Some(&value), rc, sink)
 }
 
-// ---- texts that the line takes no note of
+// ---- texts after which the state of the line is not updated
 
-/// Writes the text of a step as it is, whatever the line and the escaping.
-pub(super) fn write_step<O, T: Telling<O>, P>(
+/// Writes the text of a step as it is, whatever the state of the line and the escaping.
+pub(super) fn write_step<O, T: OutputMode<O>, P>(
     environment: &Environment<P>,
     text: &str,
     sink: &mut Sink<'_, O, T>,
 ) -> Result<(), BoxedError>
-    ensures writes { (site : Site) → Stands T.way.asks environment.now site → (i : ℕ)
-        → WritesAsIs (pieces_of (of_step site i) text.now) false T.way.may_give
-        (held_in T.way sink.old) (answer_of result) (held_in T.way sink.new) }
+    ensures writes { (occurrence : Occurrence) → KnowsLocation T.mode.asks environment.now occurrence → (i : ℕ)
+        → WritesAsIs (pieces_of (of_step occurrence i) text.now) false T.mode.may_give
+        (held_in T.mode sink.old) (answer_of result) (held_in T.mode sink.new) }
     ensures same { IsSame sink.old sink.new }
 {
     if T::asks() {
-        return tell_step(environment, text, sink);
+        return emit_step(environment, text, sink);
     }
     write_as_is(environment.alloc, text, sink)
 }
 
-/// Writes what is kept as it is, whatever the line.
-pub(super) fn write_kept<O, T: Telling<O>>(
+/// Writes what was captured as it is, whatever the state of the line.
+pub(super) fn write_captured<O, T: OutputMode<O>>(
     alloc: Global,
-    kept: &Kept,
+    captured: &Captured,
     sink: &mut Sink<'_, O, T>,
 ) -> Result<(), BoxedError>
-    ensures writes { (ps : List Piece) → AreKept T.way.asks (Some ps) (Some kept.now)
-        → WritesAsIs ps false T.way.may_give (held_in T.way sink.old) (answer_of result) (held_in T.way sink.new) }
+    ensures writes { (ps : List Piece) → AreCaptured T.mode.asks (Some ps) (Some captured.now)
+        → WritesAsIs ps false T.mode.may_give (held_in T.mode sink.old) (answer_of result) (held_in T.mode sink.new) }
     ensures same { IsSame sink.old sink.new }
 {
     if T::asks() {
-        return tell_kept(alloc, kept, sink);
+        return emit_captured(alloc, captured, sink);
     }
-    write_as_is(alloc, kept.text.as_str(), sink)
+    write_as_is(alloc, captured.text.as_str(), sink)
 }
 
-// Writes a text as it is. Its callers recurse, and have no room for what it needs.
+// Writes a text as it is. It is not inlined: its callers recurse, and take no stack space for what it needs.
 #[inline(never)]
-fn write_as_is<O, T: Telling<O>>(
+fn write_as_is<O, T: OutputMode<O>>(
     alloc: Global,
     text: &str,
     sink: &mut Sink<'_, O, T>,
 ) -> Result<(), BoxedError>
-    requires untold { T.way.asks ≡ false }
-    ensures writes { WritesText text.now false T.way.may_give (held_in T.way sink.old) (answer_of result) (held_in T.way sink.new) }
+    requires text_only { T.mode.asks ≡ false }
+    ensures writes { WritesText text.now false T.mode.may_give (held_in T.mode sink.old) (answer_of result) (held_in T.mode sink.new) }
     ensures same { IsSame sink.old sink.new }
 {
     sink.write(alloc, false, text)
 }
 
-/// Writes the word of a boolean helper, as it is, whatever the line. Its callers recurse, and have no room for
-/// what it needs.
+/// Writes the text of a boolean helper as it is, whatever the state of the line. It is not inlined: its callers recurse, and
+/// take no stack space for what it needs.
 #[inline(never)]
-pub(super) fn write_word<O, T: Telling<O>, P>(
+pub(super) fn write_boolean_text<O, T: OutputMode<O>, P>(
     environment: &Environment<P>,
-    word: bool,
+    boolean: bool,
     sink: &mut Sink<'_, O, T>,
 ) -> Result<(), BoxedError>
-    ensures writes { (site : Site) → Stands T.way.asks environment.now site
-        → WritesAsIs (record { origin = of_word site word; text = values.word word } ∷ []) true T.way.may_give
-        (held_in T.way sink.old) (answer_of result) (held_in T.way sink.new) }
+    ensures writes { (occurrence : Occurrence) → KnowsLocation T.mode.asks environment.now occurrence
+        → WritesAsIs (record { origin = of_boolean_text occurrence boolean; text = values.boolean_text boolean } ∷ []) true T.mode.may_give
+        (held_in T.mode sink.old) (answer_of result) (held_in T.mode sink.new) }
     ensures same { IsSame sink.old sink.new }
 {
     if T::asks() {
-        return tell_word(environment, word, sink);
+        return emit_boolean_text(environment, boolean, sink);
     }
-    sink.write(environment.alloc, true, word_text(word))
+    sink.write(environment.alloc, true, boolean_text(boolean))
 }
 
-/// What a boolean helper says.
-pub(super) fn word_text(word: bool) -> &'static str
-    ensures { result.now ≡ values.word word }
+/// Returns the text of a boolean helper.
+pub(super) fn boolean_text(boolean: bool) -> &'static str
+    ensures { result.now ≡ values.boolean_text boolean }
 {
-    if word { "true" } else { "false" }
+    if boolean { "true" } else { "false" }
 }

@@ -14,8 +14,8 @@ use Rattle.handlebars_scope.specs.Indentation.{longer, lines_of, between, indent
 use Rattle.handlebars_scope.specs.LineState.{LineState}
 
 -- no newline
-abbrev pub IsUnbroken : Text → Type 0
-IsUnbroken t = AllByRecursion (λ b. b ≢ newline) t
+abbrev pub HasNoNewline : Text → Type 0
+HasNoNewline t = AllByRecursion (λ b. b ≢ newline) t
 
 between-longer : (indent : Text) (b : ℕ) (ls : List Text) → between indent (longer b ls) ≡ b ∷ between indent ls
 between-longer indent b [] = refl
@@ -26,7 +26,7 @@ between-longer indent b (l ∷ m ∷ ls) = refl
 indented-byte : (indent : Text) (b : ℕ) (t : Text) → b ≢ newline → indented indent (b ∷ t) ≡ b ∷ indented indent t
 indented-byte indent b t other = rw (ne_eqb b newline other) (between-longer indent b (lines_of t))
 
-pub indented-unbroken : (indent u t : Text) → IsUnbroken u → indented indent (u ++ t) ≡ u ++ indented indent t
+pub indented-unbroken : (indent u t : Text) → HasNoNewline u → indented indent (u ++ t) ≡ u ++ indented indent t
 indented-unbroken indent [] t all = refl
 indented-unbroken indent (b ∷ u) t all =
     indented-byte indent b (u ++ t) all.0 ∙ ap (λ s. b ∷ s) (indented-unbroken indent u t all.1)
@@ -38,7 +38,7 @@ indented-one indent b = elim (cases_Bool (b == newline)) [
   | inr is ↦ rw is refl
 ]
 
--- behind a newline
+-- after a newline
 indented-first : (indent l : Text) (c : ℕ) (ls : List Text) → between indent (l ∷ longer c ls) ≡ l ++ (indent ++ between indent (longer c ls))
 indented-first indent l c [] = refl
 indented-first indent l c (m ∷ ls) = refl
@@ -50,7 +50,7 @@ indented-newline indent c t = elim (cases_Bool (c == newline)) [
   | inr is ↦ rw is (indented-first indent (newline ∷ []) c (lines_of t))
 ]
 
--- without an indentation the text is as it is
+-- without an indentation the text is unchanged
 pub indented-none : (t : Text) → indented [] t ≡ t
 indented-none [] = refl
 indented-none (b ∷ []) = indented-one [] b
@@ -59,13 +59,13 @@ indented-none (b ∷ c ∷ t) = elim (cases_Bool (b == newline)) [
   | inr is ↦ indented-byte [] b (c ∷ t) (eqb-false b newline is) ∙ ap (λ s. b ∷ s) (indented-none (c ∷ t))
 ]
 
--- ---- a line cut off
+-- ---- a line split off
 
 some-byte : (t : Text) → 0 < length t → t ≡ get_or t 0 0 ∷ drop 1 t
 some-byte [] some = absurd (omega arith)
 some-byte (b ∷ t) some = refl
 
-indented-cut : (indent u t : Text) → IsUnbroken u → 0 < length t
+indented-cut : (indent u t : Text) → HasNoNewline u → 0 < length t
     → indented indent ((u ++ newline ∷ []) ++ t) ≡ (u ++ newline ∷ []) ++ (indent ++ indented indent t)
 indented-cut indent u t all some =
     let here : t ≡ get_or t 0 0 ∷ drop 1 t = some-byte t some in
@@ -77,17 +77,17 @@ indented-cut indent u t all some =
 
 -- ---- escaped
 
-escaped-byte_unbroken : (b : ℕ) → b ≢ newline → (t : Text) → IsUnbroken t → IsUnbroken (escaped_byte b ++ t)
-escaped-byte_unbroken b other t all = by_bytes (λ b. b ≢ newline → IsUnbroken (escaped_byte b ++ t))
+escaped-byte_unbroken : (b : ℕ) → b ≢ newline → (t : Text) → HasNoNewline t → HasNoNewline (escaped_byte b ++ t)
+escaped-byte_unbroken b other t all = by_bytes (λ b. b ≢ newline → HasNoNewline (escaped_byte b ++ t))
     (λ o. search rules) (λ o. search rules) (λ o. search rules) (λ o. search rules) (λ o. search rules) (λ o. search rules) (λ o. search rules)
-    (λ b is o. subst (λ s. IsUnbroken (s ++ t)) (sym (escaped_byte-other b is)) (o, all)) b other
+    (λ b is o. subst (λ s. HasNoNewline (s ++ t)) (sym (escaped_byte-other b is)) (o, all)) b other
 
-escaped-unbroken : (t : Text) → IsUnbroken t → IsUnbroken (escaped t)
+escaped-unbroken : (t : Text) → HasNoNewline t → HasNoNewline (escaped t)
 unfolding escaped
 escaped-unbroken [] all = tt
 escaped-unbroken (b ∷ t) all = escaped-byte_unbroken b all.0 (escaped t) (escaped-unbroken t all.1)
 
-if-unbroken : (e : Bool) (t : Text) → IsUnbroken t → IsUnbroken (escaped_if e t)
+if-unbroken : (e : Bool) (t : Text) → HasNoNewline t → HasNoNewline (escaped_if e t)
 if-unbroken true t all = escaped-unbroken t all
 if-unbroken false t all = all
 
@@ -130,8 +130,8 @@ unfolding escaped
 if-none true = refl
 if-none false = refl
 
--- a line that has no newline but perhaps at its end
-indented-line : (indent : Text) (e : Bool) (n : ℕ) (t : Text) → length t ≤ n + 1 → IsUnbroken (take n t)
+-- a line that has no newline, except perhaps at its end
+indented-line : (indent : Text) (e : Bool) (n : ℕ) (t : Text) → length t ≤ n + 1 → HasNoNewline (take n t)
     → indented indent (escaped_if e t) ≡ escaped_if e t
 indented-line indent e n [] le all = rw (if-none e) refl
 indented-line indent e n (b ∷ []) le all = if-one indent e b
@@ -147,7 +147,7 @@ indented-line indent e (suc n) (b ∷ c ∷ t) le all =
 abbrev pub left_from : Text → Bool → Text → ℕ → Text
 left_from indent e text written = indented indent (escaped_if e (drop written text))
 
--- the line that is being read, but for the byte in front
+-- the line that is being read, without the byte before the position
 abbrev pub read_line : Text → ℕ → ℕ → Text
 read_line text written at = take (at - 1 - written) (drop written text)
 
@@ -156,29 +156,29 @@ pub read-more : (text : Text) (written at : ℕ) → written < at → at ≤ len
 read-more text written at w l =
     let inside : at - 1 - written < length (drop written text) = omega (arith, length-drop written text) in
     let count : at - written ≡ at - 1 - written + 1 = omega arith in
-    let place : written + (at - 1 - written) ≡ at - 1 = omega arith in
+    let offset : written + (at - 1 - written) ≡ at - 1 = omega arith in
     ap (λ n. take n (drop written text)) count ∙ take_more (drop written text) (at - 1 - written) 0 inside
     ∙ ap (λ b. read_line text written at ++ b ∷ [])
-    (get_or-drop written text (at - 1 - written) 0 ∙ ap (λ n. get_or text n 0) place)
+    (get_or-drop written text (at - 1 - written) 0 ∙ ap (λ n. get_or text n 0) offset)
 
-unbroken-more : (t : Text) (b : ℕ) → IsUnbroken t → b ≢ newline → IsUnbroken (t ++ b ∷ [])
+unbroken-more : (t : Text) (b : ℕ) → HasNoNewline t → b ≢ newline → HasNoNewline (t ++ b ∷ [])
 unbroken-more [] b all other = (other, tt)
 unbroken-more (c ∷ t) b all other = (all.0, unbroken-more t b all.1 other)
 
--- past a byte that is no newline
+-- past a byte that isn't a newline
 pub line-more : (text bytes : Text) (written at : ℕ) → bytes ≡ text → written < at → at < length bytes
-    → get_or bytes (at - 1) 0 ≢ newline → IsUnbroken (read_line text written at)
-    → IsUnbroken (read_line text written (at + 1))
+    → get_or bytes (at - 1) 0 ≢ newline → HasNoNewline (read_line text written at)
+    → HasNoNewline (read_line text written (at + 1))
 line-more text bytes written at is w l other all =
     let inside : at < length text = subst (λ t. at < length t) is l in
     let count : at + 1 - 1 - written ≡ at - written = omega arith in
-    subst IsUnbroken (sym (ap (λ n. take n (drop written text)) count ∙ read-more text written at w (omega arith)))
+    subst HasNoNewline (sym (ap (λ n. take n (drop written text)) count ∙ read-more text written at w (omega arith)))
     (unbroken-more (read_line text written at) _ all (λ e. other (ap (λ (t : Text). get_or t (at - 1) 0) is ∙ e)))
 
 -- past a newline
 pub line-cut : (indent text bytes run : Text) (e : Bool) (written at : ℕ) → bytes ≡ text
     → run ≡ take (at - written) (drop written text) → written < at → at < length bytes
-    → get_or bytes (at - 1) 0 ≡ newline → IsUnbroken (read_line text written at)
+    → get_or bytes (at - 1) 0 ≡ newline → HasNoNewline (read_line text written at)
     → left_from indent e text written ≡ escaped_if e run ++ (indent ++ left_from indent e text at)
 line-cut indent text bytes run e written at is is_run w l here all =
     let inside : at < length text = subst (λ t. at < length t) is l in
@@ -202,14 +202,14 @@ line-cut indent text bytes run e written at is is_run w l here all =
 
 -- at the end one line is left
 pub line-end : (indent text bytes run : Text) (e : Bool) (written at : ℕ) → bytes ≡ text → run ≡ drop written text
-    → length bytes ≤ at → IsUnbroken (read_line text written at)
+    → length bytes ≤ at → HasNoNewline (read_line text written at)
     → left_from indent e text written ≡ escaped_if e run
 line-end indent text bytes run e written at is is_run l all =
     let past : length text ≤ at = subst (λ t. length t ≤ at) is l in
     indented-line indent e (at - 1 - written) (drop written text) (omega (arith, length-drop written text)) all
     ∙ ap (escaped_if e) (sym is_run)
 
--- behind a newline a text may be cut
+-- a text may be split after a newline
 pub boundary-cut : (text bytes : Text) (at : ℕ) → IsUtf8 text → bytes ≡ text → at < length bytes → (written : ℕ)
     → written < at → get_or bytes (at - 1) 0 ≡ newline → IsCharBoundary text at
 boundary-cut text bytes at u is l written w here =
@@ -219,10 +219,10 @@ boundary-cut text bytes at u is l written w here =
     subst (λ n. IsCharBoundary text n) before (IsCharBoundary-after_ascii text (at - 1) u inside low)
 
 -- nothing is read of a line at its first byte
-pub line-none : (text : Text) (at : ℕ) → IsUnbroken (read_line text at (at + 1))
+pub line-none : (text : Text) (at : ℕ) → HasNoNewline (read_line text at (at + 1))
 line-none text at =
     let none : at + 1 - 1 - at ≡ 0 = omega arith in
-    subst (λ n. IsUnbroken (take n (drop at text))) (sym none) tt
+    subst (λ n. HasNoNewline (take n (drop at text))) (sym none) tt
 
 -- ---- in a line
 

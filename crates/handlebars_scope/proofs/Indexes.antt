@@ -1,4 +1,4 @@
--- What `parse` gives, and what a few digits give, is the index that a name spells.
+-- What `parse` returns, and what a few digits give, is the index that a name spells.
 use Rattle.std.proofs.Common.{◌≡◌, ◌≤◌, ◌<◌, ◌+◌, ◌*◌, ◌^◌, ℕ, length, get_or, take, Some, None, Result, Ok, Err, Bool, true, false, ◌&&◌, cond, Decides, refl, ap, sym, subst, ◌∙◌, arith}
 use Rattle.std.specs.Result.{OkIff, result_ok}
 use Rattle.std.specs.Char.{digit_value}
@@ -13,7 +13,7 @@ use Rattle.handlebars_scope.specs.Resolve.{index_of}
 use Rattle.handlebars_base.specs.Bytes.{Text}
 use Rattle.handlebars_base.proofs.Digits.{digits}
 
--- what succeeds where three tests hold is the option that the tests choose
+-- a result that succeeds if three tests hold is the option that the tests choose
 by_tests : {E : Type 0} (a b c : Bool) (v : ℕ) (P Q R : Type 0) (r : Result ℕ E) → OkIff r ((Q × P) × R) v
     → (a ≡ true → P) → (P → a ≡ true) → Decides b Q → Decides c R → result_ok r ≡ cond (a && (b && c)) (Some v) None
 by_tests true true true v P Q R (Ok x) h f g b c = ap Some h.1
@@ -40,11 +40,11 @@ of_digits name all some few =
     let small : digits_value 10 name < 10 ^ 4 = digits_value_short digits name 4 (digits.from name all) few in
     rw (plain, digits.from name all, lt-ltb 0 (length name) some, lt-ltb (digits_value 10 name) (2 ^ 64) (omega arith)) refl
 
--- the digit at a place of a name
+-- the digit at a position of a name
 abbrev IsDigitAt : Text → ℕ → ℕ → Type 0
 IsDigitAt name i d = (d ≡ digit_value (get_or name i 0)) × (d < 10)
 
--- so many bytes of a name are digits, and this is their value
+-- this many bytes of a name are digits, and this is their value
 record Reads (name : Text) (i v : ℕ) : Type 0 where
   digits : AllDigits 10 (take i name)
   value : v ≡ digits_value 10 (take i name)

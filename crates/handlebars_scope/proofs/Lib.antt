@@ -1,9 +1,9 @@
 mod Variables
 mod Indexes
 pub mod Lines
-pub mod Ways
+pub mod Resolutions
 pub mod Bases
-mod Fronts
+mod Prefixes
 pub mod Indents
 mod Merging
 pub mod IndexNames

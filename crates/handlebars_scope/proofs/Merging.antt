@@ -7,7 +7,7 @@ use Rattle.handlebars_base.specs.Bytes.{Text}
 use Rattle.serde_json.specs.Data.{Data, Members, put, string}
 use Rattle.handlebars_scope.specs.Merged.{with_characters}
 
--- a character more
+-- one more character
 pub with_characters-more : (i j index : ℕ) (bs rest : Text) (c : ℕ) (d : Data) (ms next : Members) → IsUtf8 bs
     → bs ≡ encode_utf8 c ++ rest → index ≡ i → j ≡ i + 1 → d ≡ string (encode_utf8 c) → next ≡ put (decimal index) d ms
     → with_characters j (chars rest) next ≡ with_characters i (chars bs) ms

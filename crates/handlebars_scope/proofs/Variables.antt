@@ -1,4 +1,4 @@
--- Maps by name, and the variables of a block, of which four have a place of their own.
+-- Maps by name, and the variables of a block, of which four have fields of their own.
 use Rattle.std.proofs.Common.{◌≡◌, ◌≢◌, Bool, true, false, cond, is_eq, List, [], ◌∷◌, length, is_some, Option, Some, None, option_map, String, Global, string_bytes, string_cmp, nat_cmp, bytes_eq, codes, refl, sym, ap, ◌∙◌}
 use Rattle.std.proofs.lemmas.Bool.{false≢true}
 use Rattle.std.proofs.lemmas.Map.Text.{btree_map_updates_text, is_eq-slice_cmp}
@@ -19,7 +19,7 @@ pub cond-same : {X : Type 0} (b : Bool) (x : X) → cond b x x ≡ x
 cond-same true x = refl
 cond-same false x = refl
 
--- where none of five is there
+-- if none of five is there
 pub none-of-five : {X : Type 0} (a b c d : Bool) (e : Option X) → e ≡ None
     → cond a None (cond b None (cond c None (cond d None e))) ≡ None
 none-of-five a b c d e is =
@@ -29,13 +29,13 @@ none-of-five a b c d e is =
     ∙ ap (λ z. cond a None z) (cond-same b None)
     ∙ cond-same a None
 
--- an empty map has nothing under any name
+-- an empty map has no value under any name
 pub get_by_text-empty : {X Y : Type 0} (f : X → Y) (m : BTreeMap (String Global) X) → m.entries ≡ []
     → (name : Text) → option_map f (get_by_text m name) ≡ None
 get_by_text-empty f m is name =
     ap (λ es. option_map f (lookup (is_at (λ k. slice_cmp nat_cmp name (string_bytes k))) es)) is
 
--- a map with an entry has something under that entry's name
+-- a map with an entry has a value under that entry's name
 pub get_by_text-first : {X Y : Type 0} (f : X → Y) (m : BTreeMap (String Global) X) (es : List (String Global × X))
     → es ≡ m.entries → length es ≢ 0 → (name : Text) × (is_some (option_map f (get_by_text m name)) ≡ true)
 get_by_text-first f m [] is some = absurd (some refl)
@@ -48,9 +48,9 @@ get_by_text-first f m (e ∷ es) is some =
           (is_eq-slice_cmp name name ∙ (bytes_eq-Decides name name).1 refl),
     )
 
--- ---- a value put under a name
+-- ---- a value stored under a name
 
--- a map in which a value was put, as definitions see it
+-- a map in which a value was stored, as definitions see it
 pub get_by_text-put : {X Y : Type 0} (f : X → Y) (m n : BTreeMap (String Global) X) (key : String Global) (name : Text)
     (x : X) → string_bytes key ≡ name → Updates string_cmp m n key (Some x)
     → (λ k. option_map f (get_by_text n k)) ≡ put_at name (f x) (λ k. option_map f (get_by_text m k))
@@ -70,7 +70,7 @@ apart name other k differ here =
       | false ↦ λ there. refl
     ] in go (bytes_eq other k) refl
 
--- a value put where its name has a place of its own
+-- a value stored in the field of its name
 cond-put : {X : Type 0} (own name k : Text) (x : X) (old r : Option X) → name ≡ own
     → cond (bytes_eq own k) (Some x) r ≡ cond (bytes_eq name k) (Some x) (cond (bytes_eq own k) old r)
 cond-put own name k x old r same =
@@ -84,11 +84,11 @@ cond-past false b x held r s other is = is
 cond-past true false x held r s other is = refl
 cond-past true true x held r s other is = absurd (false≢true (sym (other refl)))
 
--- a value put behind the place of another name
-cond-behind : {X : Type 0} (own name k : Text) (x : X) (held r s : Option X) → name ≢ own
+-- a value stored after the field of another name
+cond-after : {X : Type 0} (own name k : Text) (x : X) (held r s : Option X) → name ≢ own
     → r ≡ cond (bytes_eq name k) (Some x) s
     → cond (bytes_eq own k) held r ≡ cond (bytes_eq name k) (Some x) (cond (bytes_eq own k) held s)
-cond-behind own name k x held r s differ is =
+cond-after own name k x held r s differ is =
     cond-past (bytes_eq own k) (bytes_eq name k) x held r s (apart name own k differ) is
 
 -- ---- variables
@@ -107,7 +107,7 @@ module _ (v : LocalVars) (name : Text) (x : Value) where
   variables_of-last is not-first =
       let at : (k : Text) → variables_of (record v { last = Some x }) k
       ≡ put_at name (view x) (variables_of v) k = λ k.
-      cond-behind (codes "first") name k (view x) _ _ _ not-first
+      cond-after (codes "first") name k (view x) _ _ _ not-first
       (cond-put (codes "last") name k (view x) _ _ is) in
       λ i k. at k i
 
@@ -116,8 +116,8 @@ module _ (v : LocalVars) (name : Text) (x : Value) where
   variables_of-index is not-first not-last =
       let at : (k : Text) → variables_of (record v { index = Some x }) k
       ≡ put_at name (view x) (variables_of v) k = λ k.
-      cond-behind (codes "first") name k (view x) _ _ _ not-first
-      (cond-behind (codes "last") name k (view x) _ _ _ not-last
+      cond-after (codes "first") name k (view x) _ _ _ not-first
+      (cond-after (codes "last") name k (view x) _ _ _ not-last
       (cond-put (codes "index") name k (view x) _ _ is)) in
       λ i k. at k i
 
@@ -126,9 +126,9 @@ module _ (v : LocalVars) (name : Text) (x : Value) where
   variables_of-key is not-first not-last not-index =
       let at : (k : Text) → variables_of (record v { key = Some x }) k
       ≡ put_at name (view x) (variables_of v) k = λ k.
-      cond-behind (codes "first") name k (view x) _ _ _ not-first
-      (cond-behind (codes "last") name k (view x) _ _ _ not-last
-      (cond-behind (codes "index") name k (view x) _ _ _ not-index
+      cond-after (codes "first") name k (view x) _ _ _ not-first
+      (cond-after (codes "last") name k (view x) _ _ _ not-last
+      (cond-after (codes "index") name k (view x) _ _ _ not-index
       (cond-put (codes "key") name k (view x) _ _ is))) in
       λ i k. at k i
 
@@ -140,22 +140,22 @@ module _ (v : LocalVars) (name : Text) (x : Value) where
   variables_of-extra extra put not-first not-last not-index not-key =
       let at : (k : Text) → variables_of (record v { extra = extra }) k
       ≡ put_at name (view x) (variables_of v) k = λ k.
-      cond-behind (codes "first") name k (view x) _ _ _ not-first
-      (cond-behind (codes "last") name k (view x) _ _ _ not-last
-      (cond-behind (codes "index") name k (view x) _ _ _ not-index
-      (cond-behind (codes "key") name k (view x) _ _ _ not-key (λ i. put i k)))) in
+      cond-after (codes "first") name k (view x) _ _ _ not-first
+      (cond-after (codes "last") name k (view x) _ _ _ not-last
+      (cond-after (codes "index") name k (view x) _ _ _ not-index
+      (cond-after (codes "key") name k (view x) _ _ _ not-key (λ i. put i k)))) in
       λ i k. at k i
 
--- texts that a test tells apart
+-- texts that a test distinguishes
 pub differ-bytes_eq : (x y : Text) → bytes_eq x y ≡ false → x ≢ y
 differ-bytes_eq x y is = λ same. false≢true (sym is ∙ (bytes_eq-Decides x y).1 same)
 
--- the three variables that each turn sets
-pub variables_of-turn : (v : LocalVars) (first last index : Value)
+-- the three variables that each iteration sets
+pub variables_of-iteration : (v : LocalVars) (first last index : Value)
     → variables_of (record v { first = Some first; last = Some last; index = Some index })
     ≡ put_at (codes "index") (view index) (put_at (codes "last") (view last)
     (put_at (codes "first") (view first) (variables_of v)))
-variables_of-turn v first last index =
+variables_of-iteration v first last index =
     let begun : LocalVars = record v { first = Some first } in
     let ended : LocalVars = record v { first = Some first; last = Some last } in
     variables_of-index ended (codes "index") index refl (differ-bytes_eq _ _ refl) (differ-bytes_eq _ _ refl)
@@ -163,7 +163,7 @@ variables_of-turn v first last index =
     ∙ ap (λ w. put_at (codes "index") (view index) (put_at (codes "last") (view last) w))
     (variables_of-first v (codes "first") first refl)
 
--- the same variables, where those that are none of the four are the same
+-- the same variables, if those that are none of the four are the same
 pub variables_of-same : (v : LocalVars) (extra : BTreeMap (String Global) Value) → values_of extra ≡ values_of v.extra
     → variables_of (record v { extra = extra }) ≡ variables_of v
 variables_of-same v extra same = λ i name.
@@ -192,7 +192,7 @@ lookup-copied name (e ∷ es) (f ∷ fs) same =
     ∙ option_map-either view (test e.0) e.1 f.1 (lookup test es) (lookup test fs) same.0.1
     (lookup-copied name es fs same.1)
 
--- a copy of a map has the same under each name
+-- a copy of a map has the same value under each name
 get_by_text-copied : (m n : BTreeMap (String Global) Value)
     → IsClone (λ s t. string_bytes t ≡ string_bytes s) (λ v w. view w ≡ view v) m n
     → (name : Text) → option_map view (get_by_text n name) ≡ option_map view (get_by_text m name)

@@ -1,5 +1,5 @@
--- The data of templates. A number is in the range where it is an integer of 64 bits, signed or not: serde_json holds
--- any other number as a float.
+-- The data of templates. A number is in the range if it is a 64-bit integer, signed or unsigned. serde_json stores any other
+-- number as a float.
 use Rattle.std.specs.Prelude.{◌≡◌, true, false, Result, Ok, Err}
 use Rattle.serde_json.specs.Data.{Data}
 use Rattle.serde_json.specs.View.{view}
@@ -13,7 +13,7 @@ use Rattle.handlebars_scope.specs.declared.context.Context.{Context}
 abbrev pub data_of : Context → Data
 data_of c = view c.value
 
--- the call succeeds where all numbers are in the range, and else refuses a number
+-- the call succeeds if all numbers are in the range, and otherwise fails with `invalid_number`
 abbrev pub TestsRange : {A : Type 0} → Data → Result A RenderError → Type 0
 TestsRange d (Ok x) = has_float d ≡ false
 TestsRange d (Err e) = (has_float d ≡ true) × (refusal_of e ≡ plain_refusal invalid_number)

@@ -1,4 +1,4 @@
--- The line that is written, and what a text makes of it.
+-- The state of the line that is being written, and how a text changes it.
 use Rattle.std.specs.Prelude.{[], ◌∷◌, Bool, true, false, ◌||◌, ◌==◌}
 use Rattle.handlebars_base.specs.Bytes.{Text, newline, carriage_return}
 
@@ -17,11 +17,11 @@ ends_line [] = false
 ends_line (b ∷ []) = (b == newline) || (b == carriage_return)
 ends_line (b ∷ c ∷ t) = ends_line (c ∷ t)
 
--- the line behind a text that ends one or doesn't
+-- the line after a text, given whether the text ends a line
 abbrev pub line_after : Bool → LineState
 line_after ends = record { before = ends; trailing = ends; produced = true }
 
--- the line behind a text; an empty one leaves it as it is
-abbrev pub line_behind : Text → LineState → LineState
-line_behind [] line = line
-line_behind (b ∷ t) line = line_after (ends_line (b ∷ t))
+-- the line after a text; an empty text leaves it unchanged
+abbrev pub line_after_text : Text → LineState → LineState
+line_after_text [] line = line
+line_after_text (b ∷ t) line = line_after (ends_line (b ∷ t))

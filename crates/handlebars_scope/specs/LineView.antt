@@ -1,4 +1,4 @@
--- What the state of a line in the code stands for.
+-- What the code's state of a line represents.
 use Rattle.handlebars_scope.specs.LineState.{LineState}
 use Rattle.handlebars_scope.specs.declared.line.LineState.{LineState as CodeLine}
 

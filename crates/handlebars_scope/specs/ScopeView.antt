@@ -1,4 +1,4 @@
--- What blocks of scope in the code stand for.
+-- What the code's scope frames represent.
 use Rattle.std.specs.Prelude.{List, map, String, string_bytes, Option, option_map, codes, if◌then◌else◌}
 use Rattle.std.specs.BTreeMap.{BTreeMap, get_by_text}
 use Rattle.std.specs.declared.alloc.Global.{Global}
@@ -19,7 +19,7 @@ use Rattle.handlebars_scope.specs.declared.block.BlockParams.{BlockParams}
 abbrev pub values_of : BTreeMap (String Global) json.Value → Text → Option Data
 values_of values name = option_map view (get_by_text values name)
 
--- the variables by name; four of them have a place of their own
+-- the variables by name; four of them have fields of their own
 abbrev pub variables_of : LocalVars → Text → Option Data
 variables_of v name =
     if bytes_eq (codes "first") name then option_map view v.first else (

@@ -1,4 +1,4 @@
--- Blocks of scope, nearest first, and what each holds.
+-- Scope frames, nearest first, and what each of them contains.
 use Rattle.std.specs.Prelude.{List, [], Option, Some, None, cond}
 use Rattle.std.specs.Str.{bytes_eq}
 use Rattle.serde_json.specs.Data.{Data, null}
@@ -11,7 +11,7 @@ use Rattle.handlebars_template.specs.Tree.{Tree}
 abbrev pub nothing_at : {X : Type 0} → Text → Option X
 nothing_at name = None
 
--- the map with this under the name, in place of what stood there
+-- the map with this value under the name, replacing any other
 abbrev pub put_at : {X : Type 0} → Text → X → (Text → Option X) → Text → Option X
 put_at name x map other = cond (bytes_eq name other) (Some x) (map other)
 
@@ -22,8 +22,8 @@ pub data Bound : Type 0 where
   bound_path : List Text → Bound
   bound_value : Data → Bound
 
--- a block of scope: its base path, its base value, if one was set, and what stands under names: what is bound to them,
--- the block's variables, and its local partials
+-- a scope frame: its base path, its base value, if one was set, and its maps by name: what names are bound to, the block's
+-- variables, and its local partials
 pub record Frame : Type 0 where
   pub base_path : List Text
   pub base_value : Option Data
@@ -42,7 +42,7 @@ empty_frame = record {
 
 -- ---- bases
 
--- what a block stands at: a path of the data, or a value that has none
+-- the base of a block: a path of the data, or a value that has no path
 pub data Base : Type 0 where
   at_path : List Text → Base
   at_value : Data → Base
@@ -58,7 +58,7 @@ abbrev pub frame_at : Base → Frame → Frame
 frame_at (at_path path) f = record f { base_path = path }
 frame_at (at_value d) f = record f { base_value = Some d }
 
--- what a name is bound to that stands for the base of its own block
+-- what a name is bound to if it denotes the base of its own block
 abbrev pub bound_base : Base → Bound
 bound_base (at_path path) = bound_path []
 bound_base (at_value d) = bound_value d

@@ -1,4 +1,4 @@
-//! Blocks of scope: what `each`, `with` and an inclusion put around what they render.
+//! Scope frames, which `each`, `with` and partial calls put around what they render.
 
 ghost use Rattle.std.specs.Prelude.{◌≡◌, ◌==◌, IfOk, IsTrue, OnErr, OnOk, Some, codes, false, is_some, map, option_map, string_bytes, true};
 ghost use Rattle.std.specs.Borrow.{sem};
@@ -6,7 +6,7 @@ ghost use Rattle.serde_json.specs.Data.{boolean, number, unsigned};
 ghost use Rattle.serde_json.specs.View.{view};
 ghost use Rattle.handlebars_base.specs.Bytes.{Text};
 ghost use Rattle.handlebars_template.specs.TreeView.{tree_view};
-ghost use Rattle.handlebars_scope.specs.Lending.{LendsPath, LendsVariables};
+ghost use Rattle.handlebars_scope.specs.Borrowing.{BorrowsPath, BorrowsVariables};
 ghost use Rattle.handlebars_scope.specs.Scopes.{bound_path, bound_value, empty_frame, nothing_at, put_at};
 ghost use Rattle.handlebars_scope.specs.ScopeView.{bound_of, bounds_of, frame_of, variables_of};
 
@@ -25,14 +25,14 @@ pub enum BlockParamHolder {
 }
 
 impl BlockParamHolder {
-    /// A value of its own.
+    /// Creates a binding to a value.
     pub fn value(v: Json) -> BlockParamHolder
         ensures { bound_of result ≡ bound_value (view v) }
     {
         BlockParamHolder::Value(v)
     }
 
-    /// A path below the base path of the block.
+    /// Creates a binding to a path below the base path of the block.
     pub fn path(r: Vec<String>) -> BlockParamHolder
         ensures { bound_of result ≡ bound_path (map string_bytes r.items) }
     {
@@ -46,7 +46,7 @@ pub struct BlockParams {
     alloc: Global,
 }
 
-// By hand, so that whoever lets one go makes one call.
+// Not derived, so that each drop of one is a single call.
 impl Drop for BlockParams {
     fn drop(self) {
         let BlockParams { data: _, alloc: _ } = self;
@@ -54,7 +54,7 @@ impl Drop for BlockParams {
 }
 
 impl BlockParams {
-    /// No names.
+    /// Creates block parameters that bind no name.
     pub fn new(alloc: Global) -> BlockParams
         ensures { bounds_of result ≡ nothing_at }
     {
@@ -64,8 +64,11 @@ impl BlockParams {
         }
     }
 
-    /// Binds a name to a path below the base path of the block. Where memory is refused, nothing is
-    /// changed.
+    /// Binds a name to a path below the base path of the block.
+    ///
+    /// # Errors
+    ///
+    /// Fails if memory runs out. Then nothing is changed.
     pub fn add_path(&mut self, name: &str, path: Vec<String>) -> Result<(), AllocError>
         ensures ok { OnOk result (bounds_of self.new
             ≡ put_at name.now (bound_path (map string_bytes path.items)) (bounds_of self.old)) }
@@ -74,7 +77,11 @@ impl BlockParams {
         self.add(name, BlockParamHolder::Path(path))
     }
 
-    /// Binds a name to a value. Where memory is refused, nothing is changed.
+    /// Binds a name to a value.
+    ///
+    /// # Errors
+    ///
+    /// Fails if memory runs out. Then nothing is changed.
     pub fn add_value(&mut self, name: &str, value: Json) -> Result<(), AllocError>
         ensures ok { OnOk result (bounds_of self.new
             ≡ put_at name.now (bound_value (view value)) (bounds_of self.old)) }
@@ -83,14 +90,14 @@ impl BlockParams {
         self.add(name, BlockParamHolder::Value(value))
     }
 
-    /// What a name is bound to.
+    /// Returns what a name is bound to, if it is bound.
     pub fn get(&self, name: &str) -> Option<&BlockParamHolder>
         ensures { option_map (λ b. bound_of b.now) result ≡ bounds_of self.now name.now }
     {
         self.data.get(name)
     }
 
-    // Whether there are no names.
+    // Returns whether no name is bound.
     fn is_empty(&self) -> bool
         ensures { IsTrue result → bounds_of self.now ≡ nothing_at }
     {
@@ -107,8 +114,7 @@ impl BlockParams {
     }
 }
 
-/// A block of scope. Paths in it lead from its base: a value, where it has one, else a path of the
-/// data.
+/// A scope frame. Paths in it lead from its base: a value, if one is set, otherwise a path of the data.
 pub struct BlockContext {
     base_path: Vec<String>,
     base_value: Option<Json>,
@@ -118,7 +124,7 @@ pub struct BlockContext {
     alloc: Global,
 }
 
-// By hand, so that whoever lets one go makes one call.
+// Not derived, so that each drop of one is a single call.
 impl Drop for BlockContext {
     fn drop(self) {
         let BlockContext {
@@ -133,7 +139,7 @@ impl Drop for BlockContext {
 }
 
 impl BlockContext {
-    /// A block at the root of the data, in which nothing is set.
+    /// Creates a block at the root of the data, in which nothing is set.
     pub fn new(alloc: Global) -> BlockContext
         ensures { frame_of result ≡ empty_frame }
     {
@@ -147,7 +153,11 @@ impl BlockContext {
         }
     }
 
-    /// A block at the root of the data, in which the variables of another block are set.
+    /// Creates a block at the root of the data, in which only the variables of another block are set.
+    ///
+    /// # Errors
+    ///
+    /// Fails if memory runs out.
     pub fn with_variables_of(block: &BlockContext) -> Result<BlockContext, AllocError>
         ensures { IfOk result (λ b. frame_of b ≡ record empty_frame { variable = (frame_of block.now).variable }) }
     {
@@ -156,7 +166,11 @@ impl BlockContext {
         Ok(copy)
     }
 
-    /// Sets a variable. Where memory is refused, nothing is changed.
+    /// Sets a variable.
+    ///
+    /// # Errors
+    ///
+    /// Fails if memory runs out. Then nothing is changed.
     pub fn set_local_var(&mut self, name: &str, value: Json) -> Result<(), AllocError>
         ensures ok { OnOk result (frame_of self.new
             ≡ record (frame_of self.old) { variable = put_at name.now (view value) (frame_of self.old).variable }) }
@@ -165,15 +179,15 @@ impl BlockContext {
         self.local_variables.put(name, value)
     }
 
-    /// Sets the variables of a turn of `each` but its key: `first`, `last` and `index`.
-    pub fn set_turn(&mut self, index: usize, last: bool)
+    /// Sets the variables of an iteration of `each`, except its key: `first`, `last` and `index`.
+    pub fn set_iteration(&mut self, index: usize, last: bool)
         ensures { frame_of self.new ≡ record (frame_of self.old) {
           variable = put_at (codes "index") (number (unsigned index))
               (put_at (codes "last") (boolean last)
               (put_at (codes "first") (boolean (index == 0)) (frame_of self.old).variable));
         } }
     {
-        self.local_variables.put_turn(index, last);
+        self.local_variables.put_iteration(index, last);
     }
 
     /// Sets the variable `key`.
@@ -184,73 +198,73 @@ impl BlockContext {
         self.local_variables.put_key(key);
     }
 
-    /// The variables.
+    /// Returns the variables.
     pub fn local_variables(&self) -> &LocalVars
         ensures { variables_of result.now ≡ (frame_of self.now).variable }
     {
         &self.local_variables
     }
 
-    /// The variables, to be changed.
+    /// Returns a mutable reference to the variables.
     pub fn local_variables_mut(&mut self) -> &mut LocalVars
-        ensures* writes_back { sem 𝓛 (LendsVariables self.entry result) }
+        ensures* writes_back { sem 𝓛 (BorrowsVariables self.entry result) }
         ensures value { variables_of result.now ≡ (frame_of self.old).variable }
     {
         &mut self.local_variables
     }
 
-    /// Takes other variables, in place of all that were set.
+    /// Replaces all variables that were set by these.
     pub fn set_local_variables(&mut self, variables: LocalVars)
         ensures { frame_of self.new ≡ record (frame_of self.old) { variable = variables_of variables } }
     {
         self.local_variables = variables;
     }
 
-    /// The variable of this name, if it is set.
+    /// Returns the variable of this name, if it is set.
     pub fn get_local_var(&self, name: &str) -> Option<&Json>
         ensures { option_map (λ v. view v.now) result ≡ (frame_of self.now).variable name.now }
     {
         self.local_variables.get(name)
     }
 
-    /// The path of the data that paths lead from, where no base value is set. Paths that names are bound
-    /// to stand below it in any case.
+    /// Returns the path of the data that paths lead from if no base value is set. Paths that names are bound to are below it
+    /// in any case.
     pub fn base_path(&self) -> &Vec<String>
         ensures { map string_bytes result.now.items ≡ (frame_of self.now).base_path }
     {
         &self.base_path
     }
 
-    /// The base path, to be changed.
+    /// Returns a mutable reference to the base path.
     pub fn base_path_mut(&mut self) -> &mut Vec<String>
-        ensures* writes_back { sem 𝓛 (LendsPath self.entry result) }
+        ensures* writes_back { sem 𝓛 (BorrowsPath self.entry result) }
         ensures value { map string_bytes result.now.items ≡ (frame_of self.old).base_path }
     {
         &mut self.base_path
     }
 
-    /// The value that paths lead from, if one is set.
+    /// Returns the value that paths lead from, if one is set.
     pub fn base_value(&self) -> Option<&Json>
         ensures { option_map (λ v. view v.now) result ≡ (frame_of self.now).base_value }
     {
         self.base_value.as_ref()
     }
 
-    /// From now on paths lead from this value.
+    /// Sets the value that paths lead from.
     pub fn set_base_value(&mut self, value: Json)
         ensures { frame_of self.new ≡ record (frame_of self.old) { base_value = Some (view value) } }
     {
         self.base_value = Some(value);
     }
 
-    /// The template that stands in this block under a name.
+    /// Returns the template that is registered in this block under a name.
     pub fn get_local_partial(&self, name: &str) -> Option<&Rc<Template>>
         ensures { option_map (λ t. tree_view t.now.value) result ≡ (frame_of self.now).partial name.now }
     {
         self.local_partials.get(name)
     }
 
-    /// Whether no template stands in this block under a name.
+    /// Returns whether no template is registered in this block.
     pub fn has_no_partials(&self) -> bool
         ensures none { IsTrue result → (frame_of self.now).partial ≡ nothing_at }
         ensures some { result ≡ false → (name : Text) × (is_some ((frame_of self.now).partial name) ≡ true) }
@@ -258,7 +272,11 @@ impl BlockContext {
         self.local_partials.is_empty()
     }
 
-    /// Puts a template under a name in this block. Where memory is refused, nothing is changed.
+    /// Registers a template under a name in this block.
+    ///
+    /// # Errors
+    ///
+    /// Fails if memory runs out. Then nothing is changed.
     pub fn set_local_partial(
         &mut self,
         name: &str,
@@ -274,14 +292,14 @@ impl BlockContext {
         Ok(())
     }
 
-    /// What this block binds a name to.
+    /// Returns what this block binds a name to, if it binds the name.
     pub fn get_block_param(&self, name: &str) -> Option<&BlockParamHolder>
         ensures { option_map (λ b. bound_of b.now) result ≡ (frame_of self.now).bound name.now }
     {
         self.block_params.get(name)
     }
 
-    /// Binds no name from now on.
+    /// Removes all bindings of names.
     pub fn unbind_names(&mut self)
         ensures { frame_of self.new ≡ record (frame_of self.old) { bound = nothing_at } }
     {
@@ -290,14 +308,18 @@ impl BlockContext {
         }
     }
 
-    /// Binds these names, and no other.
+    /// Binds these names, and no others.
     pub fn set_block_params(&mut self, block_params: BlockParams)
         ensures { frame_of self.new ≡ record (frame_of self.old) { bound = bounds_of block_params } }
     {
         self.block_params = block_params;
     }
 
-    /// Binds a name beside those that are bound. Where memory is refused, nothing is changed.
+    /// Binds a name in addition to those that are bound.
+    ///
+    /// # Errors
+    ///
+    /// Fails if memory runs out. Then nothing is changed.
     pub fn set_block_param(&mut self, name: &str, value: BlockParamHolder) -> Result<(), AllocError>
         ensures ok { OnOk result (frame_of self.new
             ≡ record (frame_of self.old) { bound = put_at name.now (bound_of value) (frame_of self.old).bound }) }

@@ -1,4 +1,4 @@
-//! The data of a template, and the ways into it.
+//! The data of a template, and lookup in it.
 
 ghost use Rattle.std.specs.Prelude.{◌≡◌, ◌⊎◌, [], false, IfErr, IfOk, Err, None, Ok, Some, String, string_bytes};
 ghost use Rattle.std.specs.Global.{Global};
@@ -9,19 +9,19 @@ ghost use Rattle.serde_json.specs.Sent.{IsTextOf};
 ghost use Rattle.serde_json.specs.View.{view};
 ghost use Rattle.serde_json.specs.Written.{has_float};
 ghost use Rattle.handlebars_base.specs.Reasons.{nowhere, out_of_memory, serde_error};
-ghost use Rattle.handlebars_base.specs.RenderRefusals.{reason_in, spot_of};
+ghost use Rattle.handlebars_base.specs.RenderRefusals.{reason_in, location_of};
 
 pub mod bases;
-mod fronts;
+pub mod data_node;
 pub mod full_path;
 pub mod located;
 pub mod looked_up;
 pub mod members;
-pub mod place;
+mod prefixes;
 mod range;
 pub mod reached;
+mod resolution;
 pub mod walk;
-mod way;
 
 use crate::block::BlockContext;
 use crate::context::range::has_float;
@@ -33,10 +33,10 @@ use serde::Serialize;
 use std::alloc::{AllocError, Global};
 use std::collections::{BTreeMap, VecDeque};
 
-/// The members of an object, each under its name.
+/// The members of an object, by name.
 pub type Object = BTreeMap<String, Json>;
 
-/// Data whose numbers are all integers, none below -2^63 and none of 2^64 or more.
+/// Data whose numbers are all integers from -2^63 to 2^64 - 1.
 #[derive(Drop)]
 pub struct Context {
     value: Json,
@@ -48,39 +48,43 @@ impl Context {
     ghost use Rattle.serde_json.specs.Data.{null};
     ghost use Rattle.serde_json.specs.View.{view};
     ghost use Rattle.serde_json.specs.Written.{has_float};
-    ghost use Rattle.handlebars_base.specs.Answers.{Answers, gives, refuses_for};
+    ghost use Rattle.handlebars_base.specs.Answers.{Answers, gives, fails_for};
     ghost use Rattle.handlebars_base.specs.PathView.{segments_of};
     ghost use Rattle.handlebars_base.specs.Scoped.{found_of, is_constant};
     ghost use Rattle.handlebars_scope.specs.Resolve.{navigate};
     ghost use Rattle.handlebars_scope.specs.ScopeView.{frames_of};
     ghost use Rattle.handlebars_base.specs.Reasons.{nowhere, out_of_memory};
-    ghost use Rattle.handlebars_base.specs.RenderRefusals.{reason_in, spot_of};
+    ghost use Rattle.handlebars_base.specs.RenderRefusals.{reason_in, location_of};
     ghost use Rattle.handlebars_scope.specs.Contexts.{data_of, TestsRange};
     ghost use Rattle.handlebars_scope.specs.Wraps.{IsConversion};
 
-    /// The data of a template that is given none.
+    /// Creates the data of a template that is given none, which is null.
     pub fn null() -> Context
         ensures { data_of result ≡ null }
     {
         Context { value: Json::Null }
     }
 
-    /// The data that JSON reads from what `source` is written as. `SerdeError` where serde_json
-    /// does not write it, of which nothing more is known, or does not read it, as where it nests
-    /// deeper than 127; `InvalidNumber` where a number is outside the range.
+    /// Creates the data that is read from the JSON text that serde_json writes for `source`.
+    ///
+    /// # Errors
+    ///
+    /// Fails with `SerdeError` if serde_json doesn't write `source`, of which nothing more is specified, or doesn't read the
+    /// text, for example because it nests deeper than 127 levels. Fails with `InvalidNumber` if a number is outside the
+    /// range, and with `OutOfMemory` if memory runs out.
     pub fn wraps<T: Serialize>(alloc: Global, source: &T) -> Result<Context, RenderError>
         ensures ok { IfOk result (λ c. IsConversion T.writes source.now (gives (data_of c))) }
         ensures err { IfErr result (λ e. reason_in e ≢ out_of_memory
-            → IsConversion T.writes source.now (refuses_for (reason_in e))) }
-        ensures plain { IfErr result (λ e. spot_of e ≡ nowhere) }
+            → IsConversion T.writes source.now (fails_for (reason_in e))) }
+        ensures plain { IfErr result (λ e. location_of e ≡ nowhere) }
     {
         match read_back(alloc, source, written) {
             Ok(value) => Context::try_from(value),
-            Err(cause) => Err(refused(cause)),
+            Err(cause) => Err(failed(cause)),
         }
     }
 
-    /// The data, which a caller may rely on to be in the range.
+    /// Returns the data. A caller may rely on its numbers being in the range.
     pub fn data(&self) -> &Json
         ensures value { view result.now ≡ data_of self.now }
         ensures in_range { has_float (view result.now) ≡ false }
@@ -88,7 +92,11 @@ impl Context {
         &self.value
     }
 
-    /// A copy of the context.
+    /// Returns a copy of the context.
+    ///
+    /// # Errors
+    ///
+    /// Fails if memory runs out.
     pub fn clone(&self, _alloc: Global) -> Result<Context, AllocError>
         ensures { IfOk result (λ copy. data_of copy ≡ data_of self.now) }
     {
@@ -97,8 +105,13 @@ impl Context {
         })
     }
 
-    /// What the segments of a path lead to in these blocks and this data. A value that a block holds
-    /// is copied, one of the data is borrowed.
+    /// Returns what the segments of a path lead to in these blocks and this data. A value that a block holds is copied, and a
+    /// value of the data is borrowed.
+    ///
+    /// # Errors
+    ///
+    /// Fails with `InvalidJsonIndex` for a name that isn't an index of an array, as the definition `navigate` says, and with
+    /// `OutOfMemory` if memory runs out.
     pub fn navigate<'rc>(
         &'rc self,
         alloc: Global,
@@ -119,7 +132,11 @@ impl Context {
         )
     }
 
-    /// Takes other data. `InvalidNumber` where a number is outside the range. Visits all of it.
+    /// Replaces the data. Visits all of the new data.
+    ///
+    /// # Errors
+    ///
+    /// Fails with `InvalidNumber` if a number is outside the range. Then nothing is changed.
     pub fn set_data(&mut self, given: Json) -> Result<(), RenderError>
         ensures range { TestsRange (view given) result }
         ensures ok { OnOk result (data_of self.new ≡ view given) }
@@ -130,15 +147,15 @@ impl Context {
     }
 }
 
-// What serde writes of a value, where it does.
+// Returns the text that serde_json writes for a value, if it writes one.
 fn written<T: Serialize>(alloc: Global, source: &T) -> Result<String, serde_json::Error>
     ensures { IfOk result (λ text. (log : Log) × T.writes source.now (Some []) log × IsTextOf log (string_bytes text)) }
 {
     serde_json::to_string(alloc, source)
 }
 
-// What JSON reads of what a value is written as. `write` may refuse for reasons of its own; a text that it gave is
-// refused only where it isn't read, but for want of memory.
+// Returns the JSON value that is read from the text that `write` returns. `write` may fail for its own reasons. Apart from
+// out of memory, a text that it returned fails only if it isn't read.
 fn read_back<T, F: FnOnce(Global, &T) -> Result<String, serde_json::Error>>(
     alloc: Global,
     source: &T,
@@ -159,11 +176,11 @@ fn read_back<T, F: FnOnce(Global, &T) -> Result<String, serde_json::Error>>(
     }
 }
 
-// What serde_json refuses, but for want of memory, which has a reason of its own.
-fn refused(cause: serde_json::Error) -> RenderError
+// Returns the error for a failure of serde_json: `OutOfMemory` if memory ran out, otherwise `SerdeError`.
+fn failed(cause: serde_json::Error) -> RenderError
     ensures memory { IsMemory cause → reason_in result ≡ out_of_memory }
     ensures other { ¬ (IsMemory cause) → reason_in result ≡ serde_error }
-    ensures plain { spot_of result ≡ nowhere }
+    ensures plain { location_of result ≡ nowhere }
 {
     if cause.is_memory() {
         RenderErrorReason::OutOfMemory.into()
@@ -172,7 +189,7 @@ fn refused(cause: serde_json::Error) -> RenderError
     }
 }
 
-/// `InvalidNumber` where a number is outside the range. Visits all of the data.
+/// Fails with `InvalidNumber` if a number is outside the range. Visits all of the data.
 impl TryFrom<Json> for Context {
     type Error = RenderError;
 

@@ -1,4 +1,4 @@
-//! Indentation: before what begins a line, and between the lines of a text.
+//! Indentation: before a text that begins a line, and between the lines of a text.
 
 ghost use Rattle.std.specs.Prelude.{◌≡◌, IfErr, IfOk, string_bytes};
 ghost use Rattle.handlebars_base.specs.Outputs.{Written};
@@ -12,19 +12,27 @@ use handlebars_base::support::write_escaped;
 use std::alloc::{AllocError, Global};
 use std::io;
 
-/// A copy of the text, with the indentation behind each newline that isn't its last character.
+/// Returns a copy of the text with the indentation after each newline that isn't its last character.
+///
+/// # Errors
+///
+/// Fails if memory runs out.
 pub fn with_indent(alloc: Global, text: &str, indent: &str) -> Result<String, AllocError>
     ensures { IfOk result (λ s. string_bytes s ≡ indented indent.now text.now) }
 {
     let mut out = StringOutput::new(alloc);
     match write_indented(text, indent, &mut out) {
         Ok(()) => Ok(out.into_string()),
-        // An output in memory fails only for want of it.
+        // An output in memory fails only when memory runs out.
         Err(_) => Err(AllocError),
     }
 }
 
-/// Writes what `with_indent` makes of the text, with no text made on the way.
+/// Writes the text as `with_indent` returns it. Builds no intermediate text.
+///
+/// # Errors
+///
+/// Fails with the output's error if a write fails.
 pub fn write_indented<O: Output>(text: &str, indent: &str, out: &mut O) -> Result<(), io::Error>
     ensures written { Written (indented indent.now text.now) (O.held out.old) result (O.held out.new) }
     ensures given { IfErr result O.may_give }
@@ -32,7 +40,11 @@ pub fn write_indented<O: Output>(text: &str, indent: &str, out: &mut O) -> Resul
     write_lines(text, indent, false, out)
 }
 
-/// Writes a text, escaped where that is asked, with the indentation behind each newline that isn't its last character.
+/// Writes a text, escaped if `escapes` is set, with the indentation after each newline that isn't its last character.
+///
+/// # Errors
+///
+/// Fails with the output's error if a write fails.
 pub fn write_lines<O: Output>(
     text: &str,
     indent: &str,
@@ -54,7 +66,7 @@ pub fn write_lines<O: Output>(
     write_part(&text[written..], escapes, out)
 }
 
-// Writes a text, escaped or not.
+// Writes a text, escaped if `escapes` is set.
 fn write_part<O: Output>(text: &str, escapes: bool, out: &mut O) -> Result<(), io::Error>
     ensures written { Written (escaped_if escapes text.now) (O.held out.old) result (O.held out.new) }
     ensures given { IfErr result O.may_give }
@@ -66,7 +78,11 @@ fn write_part<O: Output>(text: &str, escapes: bool, out: &mut O) -> Result<(), i
     }
 }
 
-/// Writes what a text is escaped to, or the text, in a line with an indentation, which may be empty.
+/// Writes a text, escaped if `escapes` is set, in a line with an indentation, which may be empty.
+///
+/// # Errors
+///
+/// Fails with the output's error if a write fails.
 pub fn write_in_line<O: Output>(
     line: LineState,
     text: &str,
@@ -86,7 +102,7 @@ pub fn write_in_line<O: Output>(
     write_lines(text, indent, escapes, out)
 }
 
-// Whether the indentation goes before a text.
+// Returns whether the indentation is written before a text.
 fn takes_indent(line: LineState, text: &str) -> bool
     ensures { result ≡ takes_indent (line_of line) text.now }
 {

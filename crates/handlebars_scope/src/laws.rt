@@ -1,8 +1,8 @@
-//! Laws of what is defined here, for whoever builds on it.
+//! Laws of the definitions of this crate, for proofs that build on them.
 
-ghost use Rattle.handlebars_scope.specs.Fronts.{TakesLongest};
+ghost use Rattle.handlebars_scope.specs.Prefixes.{TakesLongest};
 
-/// The law of recursive lookup.
+/// Recursive lookup takes the longest prefix of the base path under which a name has a value.
 pub fn recursive_lookup_law()
     ensures { TakesLongest }
 {}

@@ -1,5 +1,5 @@
-//! What a rendering goes through: the data, blocks of scope and where paths lead among them, and the
-//! line that is written.
+//! The state of a rendering: the data, the scope frames and where paths lead in them, and the line that is being
+//! written.
 #![tactic(auto)]
 
 pub mod block;

@@ -5,14 +5,14 @@ ghost use Rattle.serde_json.specs.View.{view, number_view};
 ghost use Rattle.handlebars_base.specs.Values.{rendered_number};
 ghost use Rattle.handlebars_base.specs.Escape.{escaped};
 ghost use Rattle.handlebars_scope.specs.LineView.{line_of};
-ghost use Rattle.handlebars_scope.specs.LineState.{first_line, line_after, line_behind, ends_line};
+ghost use Rattle.handlebars_scope.specs.LineState.{first_line, line_after, line_after_text, ends_line};
 ghost use Rattle.handlebars_base.specs.Shown.{shown};
 
 use handlebars_base::json::value::Json;
 use serde_json::Number;
 
-/// What is known of the line that is being written: whether indentation goes before the next text,
-/// whether the last text ended a line, and whether there was one.
+/// The state of the line that is being written: whether indentation goes before the next text, whether the last text
+/// ended a line, and whether there was a text.
 #[derive(Clone, Copy)]
 pub struct LineState {
     pub before: bool,
@@ -21,7 +21,7 @@ pub struct LineState {
 }
 
 impl LineState {
-    /// The line that a run begins with.
+    /// Returns the line that a rendering begins with.
     pub fn first() -> LineState
         ensures { line_of result ≡ first_line }
     {
@@ -32,9 +32,9 @@ impl LineState {
         }
     }
 
-    /// The line behind a text that is written here.
-    pub fn behind(self, text: &str) -> LineState
-        ensures { line_of result ≡ line_behind text.now (line_of self) }
+    /// Returns the line after a text that is written in it.
+    pub fn after(self, text: &str) -> LineState
+        ensures { line_of result ≡ line_after_text text.now (line_of self) }
     {
         if text.is_empty() {
             self
@@ -43,22 +43,22 @@ impl LineState {
         }
     }
 
-    /// The line behind a value that is written here, whether escaping is on or not.
-    pub fn behind_value(self, value: &Json) -> LineState
-        ensures { (escapes : Bool) → line_of result ≡ line_behind (shown escapes (view value.now)) (line_of self) }
+    /// Returns the line after a value that is written in it. It doesn't depend on whether escaping is on.
+    pub fn after_value(self, value: &Json) -> LineState
+        ensures { (escapes : Bool) → line_of result ≡ line_after_text (shown escapes (view value.now)) (line_of self) }
     {
         match value {
             Json::Null => self,
-            Json::Number(number) => self.behind_number(number),
+            Json::Number(number) => self.after_number(number),
             // No entity ends a line.
-            Json::String(text) => self.behind(text.as_str()),
+            Json::String(text) => self.after(text.as_str()),
             Json::Bool(_) | Json::Array(_) | Json::Object(_) => line_after(false),
         }
     }
 
-    // The line behind a number; one outside the range writes nothing.
-    fn behind_number(self, number: &Number) -> LineState
-        ensures { line_of result ≡ line_behind (escaped (rendered_number (number_view number.now))) (line_of self) }
+    // Returns the line after a number. A number outside the range writes nothing.
+    fn after_number(self, number: &Number) -> LineState
+        ensures { line_of result ≡ line_after_text (escaped (rendered_number (number_view number.now))) (line_of self) }
     {
         if number.is_f64() {
             self
@@ -68,7 +68,7 @@ impl LineState {
     }
 }
 
-// The line behind a text that ends one or doesn't.
+// Returns the line after a text, given whether the text ends a line.
 fn line_after(ends: bool) -> LineState
     ensures { line_of result ≡ line_after ends }
 {

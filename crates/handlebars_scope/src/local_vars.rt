@@ -1,4 +1,4 @@
-//! The variables of a block of scope.
+//! The variables of a scope frame.
 
 ghost use Rattle.std.specs.Prelude.{◌≡◌, ◌==◌, IfOk, OnErr, OnOk, Some, codes, option_map};
 ghost use Rattle.serde_json.specs.Data.{boolean, number, unsigned};
@@ -14,7 +14,7 @@ use std::collections::BTreeMap;
 
 /// The variables of a block by name, without the `@` that templates write before it.
 pub struct LocalVars {
-    // Those that `each` sets have a place of their own, so that a turn makes no key.
+    // The variables that `each` sets have fields of their own, so that an iteration creates no key.
     first: Option<Json>,
     last: Option<Json>,
     index: Option<Json>,
@@ -23,7 +23,7 @@ pub struct LocalVars {
     alloc: Global,
 }
 
-// By hand, so that whoever lets one go makes one call.
+// Not derived, so that each drop of one is a single call.
 impl Drop for LocalVars {
     fn drop(self) {
         let LocalVars {
@@ -38,7 +38,7 @@ impl Drop for LocalVars {
 }
 
 impl LocalVars {
-    /// No variables.
+    /// Creates an empty set of variables.
     pub fn new(alloc: Global) -> LocalVars
         ensures { variables_of result ≡ nothing_at }
     {
@@ -52,7 +52,7 @@ impl LocalVars {
         }
     }
 
-    /// The variable of this name, if it is set.
+    /// Returns the variable of this name, if it is set.
     pub fn get(&self, key: &str) -> Option<&Json>
         ensures { option_map (λ v. view v.now) result ≡ variables_of self.now key.now }
     {
@@ -65,7 +65,11 @@ impl LocalVars {
         }
     }
 
-    /// Sets a variable, in place of one of this name. Where memory is refused, nothing is changed.
+    /// Sets a variable, replacing one of this name.
+    ///
+    /// # Errors
+    ///
+    /// Fails if memory runs out. Then nothing is changed.
     pub fn put(&mut self, key: &str, value: Json) -> Result<(), AllocError>
         ensures ok { OnOk result (variables_of self.new ≡ put_at key.now (view value) (variables_of self.old)) }
         ensures err { OnErr result (variables_of self.new ≡ variables_of self.old) }
@@ -80,8 +84,8 @@ impl LocalVars {
         Ok(())
     }
 
-    /// Sets what each turn of `each` sets: `first`, `last` and `index`. Looks no name up.
-    pub fn put_turn(&mut self, index: usize, last: bool)
+    /// Sets the variables that each iteration of `each` sets: `first`, `last` and `index`. Looks no name up.
+    pub fn put_iteration(&mut self, index: usize, last: bool)
         ensures { variables_of self.new ≡ put_at (codes "index") (number (unsigned index))
             (put_at (codes "last") (boolean last) (put_at (codes "first") (boolean (index == 0)) (variables_of self.old))) }
     {
@@ -90,14 +94,18 @@ impl LocalVars {
         set_number(&mut self.index, Number::from(index));
     }
 
-    /// Sets `key`, as turns over the members of an object do. Looks no name up.
+    /// Sets `key`, as iterations over the members of an object do. Looks no name up.
     pub fn put_key(&mut self, key: Json)
         ensures { variables_of self.new ≡ put_at (codes "key") (view key) (variables_of self.old) }
     {
         set(&mut self.key, key);
     }
 
-    /// A copy of the variables.
+    /// Returns a copy of the variables.
+    ///
+    /// # Errors
+    ///
+    /// Fails if memory runs out.
     pub fn clone(&self) -> Result<LocalVars, AllocError>
         ensures { IfOk result (λ copy. variables_of copy ≡ variables_of self.now) }
     {
@@ -106,7 +114,7 @@ impl LocalVars {
         Ok(copy)
     }
 
-    // Takes the variables of another, in place of all that were set. Where memory is refused, some are taken.
+    // Replaces all variables by copies of another's. If memory runs out, some of them are copied.
     pub(crate) fn copy(&mut self, other: &LocalVars) -> Result<(), AllocError>
         ensures { OnOk result (variables_of self.new ≡ variables_of other.now) }
     {
@@ -119,35 +127,35 @@ impl LocalVars {
     }
 }
 
-fn set(place: &mut Option<Json>, value: Json)
-    ensures { place.new ≡ Some value }
+fn set(slot: &mut Option<Json>, value: Json)
+    ensures { slot.new ≡ Some value }
 {
-    *place = Some(value);
+    *slot = Some(value);
 }
 
-// Sets a boolean; where one stands already, in its place.
-fn set_truth(place: &mut Option<Json>, truth: bool)
-    ensures { place.new ≡ Some (held.Bool truth) }
+// Sets a boolean. Overwrites one that is already there.
+fn set_truth(slot: &mut Option<Json>, truth: bool)
+    ensures { slot.new ≡ Some (held.Bool truth) }
 {
-    if let Some(Json::Bool(held)) = place {
+    if let Some(Json::Bool(held)) = slot {
         *held = truth;
         return;
     }
-    set(place, Json::Bool(truth));
+    set(slot, Json::Bool(truth));
 }
 
-// Sets a number; where one stands already, in its place.
-fn set_number(place: &mut Option<Json>, number: Number)
-    ensures { place.new ≡ Some (held.Number number) }
+// Sets a number. Overwrites one that is already there.
+fn set_number(slot: &mut Option<Json>, number: Number)
+    ensures { slot.new ≡ Some (held.Number number) }
 {
-    if let Some(Json::Number(held)) = place {
+    if let Some(Json::Number(held)) = slot {
         *held = number;
         return;
     }
-    set(place, Json::Number(number));
+    set(slot, Json::Number(number));
 }
 
-// Puts a value under a name that has no place of its own. Where memory is refused, nothing is changed.
+// Stores a value under a name that has no field of its own. If memory runs out, nothing is changed.
 fn put_extra(
     alloc: Global,
     extra: &mut BTreeMap<String, Json>,
@@ -162,7 +170,7 @@ fn put_extra(
     Ok(())
 }
 
-// Copies a variable. What a turn sets is copied here.
+// Copies a variable. The booleans and numbers that an iteration sets are copied here.
 fn copy_to(to: &mut Option<Json>, from: &Option<Json>) -> Result<(), AllocError>
     ensures { OnOk result (option_map view to.new ≡ option_map view from.now) }
 {

@@ -1,4 +1,4 @@
-//! What a value becomes with the pairs of an inclusion.
+//! Merges a value with the hash arguments of a partial call.
 
 ghost use Rattle.std.specs.Prelude.{◌≡◌, IfOk, OnOk, decimal, is_some, string_bytes, true};
 ghost use Rattle.std.specs.Char.{encode_utf8};
@@ -7,26 +7,31 @@ ghost use Rattle.serde_json.specs.Data.{no_members, put, string};
 ghost use Rattle.serde_json.specs.Find.{as_object};
 ghost use Rattle.serde_json.specs.View.{items_view, members_view, view};
 ghost use Rattle.handlebars_scope.specs.Merged.{members_in, merge, with_characters, with_items};
-ghost use Rattle.handlebars_scope.specs.MergedView.{pairs_in};
+ghost use Rattle.handlebars_scope.specs.MergedView.{hash_in};
 
 use handlebars_base::json::value::{Json, PathAndJson};
 use std::alloc::{AllocError, Global};
 use std::collections::BTreeMap;
 
-/// A value with these pairs. Without any it is a copy of the value; with some an object, with the value's members, or
-/// its items or characters by their positions. A pair whose value is missing counts as null.
+/// Merges a value with these hash arguments. Without any, returns a copy of the value. With some, returns an object with
+/// the value's members, or with its items or characters by their positions. A hash argument whose value is missing counts
+/// as null.
+///
+/// # Errors
+///
+/// Fails if memory runs out.
 pub fn merge(
     alloc: Global,
     base: &Json,
-    pairs: &BTreeMap<&str, PathAndJson>,
+    hash: &BTreeMap<&str, PathAndJson>,
 ) -> Result<Json, AllocError>
-    ensures { IfOk result (λ d. view d ≡ merge (view base.now) (pairs_in pairs.now.entries)) }
+    ensures { IfOk result (λ d. view d ≡ merge (view base.now) (hash_in hash.now.entries)) }
 {
-    if pairs.is_empty() {
+    if hash.is_empty() {
         return base.clone();
     }
     let mut members = members_in(alloc, base)?;
-    'pairs: for (key, value) in pairs.iter() {
+    'hash: for (key, value) in hash.iter() {
         put(
             &mut members,
             String::from_str(alloc, *key)?,
@@ -36,7 +41,7 @@ pub fn merge(
     Ok(Json::Object(members))
 }
 
-// The members that a value brings.
+// Returns the members that a value contributes.
 fn members_in(alloc: Global, base: &Json) -> Result<BTreeMap<String, Json>, AllocError>
     ensures { IfOk result (λ members. members_view members.entries ≡ members_in (view base.now)) }
 {
@@ -48,7 +53,7 @@ fn members_in(alloc: Global, base: &Json) -> Result<BTreeMap<String, Json>, Allo
     }
 }
 
-// Those of an object.
+// Returns the members of an object.
 fn own_members(alloc: Global, base: Json) -> Result<BTreeMap<String, Json>, AllocError>
     ensures { IfOk result (λ members. is_some (as_object (view base)) ≡ true
         → members_view members.entries ≡ members_in (view base)) }
@@ -86,7 +91,7 @@ fn characters_by_position(alloc: Global, text: &str) -> Result<BTreeMap<String, 
     Ok(members)
 }
 
-// A text of one character.
+// Returns a text of one character.
 fn character_alone(alloc: Global, character: char) -> Result<Json, AllocError>
     ensures { IfOk result (λ d. view d ≡ string (encode_utf8 character)) }
 {
@@ -95,7 +100,7 @@ fn character_alone(alloc: Global, character: char) -> Result<Json, AllocError>
     Ok(Json::String(text))
 }
 
-// Puts a value at a position.
+// Stores a value under a position.
 fn put_at(
     alloc: Global,
     members: &mut BTreeMap<String, Json>,

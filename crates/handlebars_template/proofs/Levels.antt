@@ -1,8 +1,8 @@
 -- The views, one level at a time.
 use Rattle.std.proofs.Common.{◌≡◌, ◌&&◌, suc, ◌==◌, List, [], ◌∷◌, Option, None, Some, length, refl, sym, ap, ◌∙◌, rules, arith, Box, Global, String}
 use Rattle.std.proofs.lemmas.Bool.{ne_eqb}
-use Rattle.handlebars_template.specs.Tree.{Tree, Element, Call, call, Decorator, Param, Binding, both, args, bodies, call_name, call_params, call_pairs, call_binding, call_body, call_inverse, call_marks, args_params, args_pairs, decorator_name, decorator_args, lacks_params, lacks_pairs, is_value, expression, helper_block, decorator_expression, decorator_block, partial_expression, partial_block, comment, raw_string, name, path, literal, subexpression}
-use Rattle.handlebars_template.specs.TreeView.{binding_of, body_of, binding_layer, param_layer, element_layer, decorator_layer, call_layer, subexpression_layer, tree_layer, binding_view, tree_view, text, element_view, call_view, decorator_view, param_view, params_view, pairs_view, body_view, block_param_view, subexpression_view}
+use Rattle.handlebars_template.specs.Tree.{Tree, Element, Call, call, Decorator, Param, Binding, both, args, bodies, call_name, call_params, call_hash, call_binding, call_body, call_inverse, call_marks, args_params, args_hash, decorator_name, decorator_args, lacks_params, lacks_hash, is_value, escaped_expression, helper_block, decorator_expression, decorator_block, partial_expression, partial_block, comment, raw_string, name, path, literal, subexpression}
+use Rattle.handlebars_template.specs.TreeView.{binding_of, body_of, binding_layer, param_layer, element_layer, decorator_layer, call_layer, subexpression_layer, tree_layer, binding_view, tree_view, text, element_view, call_view, decorator_view, param_view, params_view, hash_view, body_view, block_param_view, subexpression_view}
 use Rattle.handlebars_template.specs.declared.template.tree.BlockParam.{BlockParam, the_lemmas}
 use Rattle.handlebars_template.specs.declared.template.tree.BlockParam.TheShapes.{former-HelperTemplate-block_param, former-DecoratorTemplate-template}
 use Rattle.handlebars_template.specs.declared.template.tree.BlockParam.TheOpen.{HelperTemplate-F}
@@ -21,7 +21,7 @@ use Rattle.handlebars_template.specs.declared.template.tree.DecoratorTemplate.{D
 use Rattle.handlebars_template.specs.declared.template.tree.Parameter.{Parameter}
 use Rattle.handlebars_template.specs.declared.template.tree.TemplateElement.TheVariants.{Expression, HelperBlock, DecoratorExpression, DecoratorBlock, PartialExpression, PartialBlock, Comment, RawString}
 
-pub element_view-Expression : (b : Box HelperTemplate Global) → element_view (Expression b) ≡ expression (call_view b.value)
+pub element_view-Expression : (b : Box HelperTemplate Global) → element_view (Expression b) ≡ escaped_expression (call_view b.value)
 element_view-Expression b = search (rules, the_lemmas)
 
 pub element_view-HelperBlock : (b : Box HelperTemplate Global) → element_view (HelperBlock b) ≡ helper_block (call_view b.value)
@@ -53,8 +53,8 @@ call_name-view h = search (rules, the_lemmas)
 pub call_params-view : (h : HelperTemplate) → call_params (call_view h) ≡ params_view (out-HelperTemplate h).params.items
 call_params-view h = search (rules, the_lemmas)
 
-pub call_pairs-view : (h : HelperTemplate) → call_pairs (call_view h) ≡ pairs_view (out-HelperTemplate h).hash.entries
-call_pairs-view h = search (rules, the_lemmas)
+pub call_hash-view : (h : HelperTemplate) → call_hash (call_view h) ≡ hash_view (out-HelperTemplate h).hash.entries
+call_hash-view h = search (rules, the_lemmas)
 
 pub call_binding-view : (h : HelperTemplate) → call_binding (call_view h) ≡ block_param_view (out-HelperTemplate h).block_param
 call_binding-view h = search (rules, the_lemmas)
@@ -88,7 +88,7 @@ param_view-Subexpression s = search (rules, the_lemmas)
 pub subexpression_view-roll : (b : Box TemplateElement Global) → subexpression_view (roll-Subexpression (record { element = b })) ≡ element_view b.value
 subexpression_view-roll b = search (rules, the_lemmas)
 
--- ---- the parts of a decorator or an inclusion
+-- ---- the parts of a decorator or a partial
 
 pub decorator_name-view : (t : DecoratorTemplate) → decorator_name (decorator_view t) ≡ param_view (out-DecoratorTemplate t).name
 decorator_name-view t = search (rules, the_lemmas)
@@ -96,8 +96,8 @@ decorator_name-view t = search (rules, the_lemmas)
 pub decorator_params-view : (t : DecoratorTemplate) → args_params (decorator_args (decorator_view t)) ≡ params_view (out-DecoratorTemplate t).params.items
 decorator_params-view t = search (rules, the_lemmas)
 
-pub decorator_pairs-view : (t : DecoratorTemplate) → args_pairs (decorator_args (decorator_view t)) ≡ pairs_view (out-DecoratorTemplate t).hash.entries
-decorator_pairs-view t = search (rules, the_lemmas)
+pub decorator_hash-view : (t : DecoratorTemplate) → args_hash (decorator_args (decorator_view t)) ≡ hash_view (out-DecoratorTemplate t).hash.entries
+decorator_hash-view t = search (rules, the_lemmas)
 
 -- ---- values
 
@@ -105,18 +105,18 @@ pub lacks_params-view : (ps : List Parameter) → lacks_params (params_view ps) 
 lacks_params-view [] = refl
 lacks_params-view (p ∷ ps) = sym (ne_eqb (suc (length ps)) 0 (λ e. absurd (omega arith)))
 
-pub lacks_pairs-view : (hs : List (String Global × Parameter)) → lacks_pairs (pairs_view hs) ≡ (length hs == 0)
-lacks_pairs-view [] = refl
-lacks_pairs-view (h ∷ hs) = sym (ne_eqb (suc (length hs)) 0 (λ e. absurd (omega arith)))
+pub lacks_hash-view : (hs : List (String Global × Parameter)) → lacks_hash (hash_view hs) ≡ (length hs == 0)
+lacks_hash-view [] = refl
+lacks_hash-view (h ∷ hs) = sym (ne_eqb (suc (length hs)) 0 (λ e. absurd (omega arith)))
 
 pub is_value-view : (h : HelperTemplate) → is_value (call_view h)
     ≡ (length (out-HelperTemplate h).params.items == 0) && (length (out-HelperTemplate h).hash.entries == 0)
 is_value-view h =
     let ps : lacks_params (call_params (call_view h)) ≡ (length (out-HelperTemplate h).params.items == 0) = ap lacks_params (call_params-view h) ∙ lacks_params-view (out-HelperTemplate h).params.items in
-    let hs : lacks_pairs (call_pairs (call_view h)) ≡ (length (out-HelperTemplate h).hash.entries == 0) = ap lacks_pairs (call_pairs-view h) ∙ lacks_pairs-view (out-HelperTemplate h).hash.entries in
+    let hs : lacks_hash (call_hash (call_view h)) ≡ (length (out-HelperTemplate h).hash.entries == 0) = ap lacks_hash (call_hash-view h) ∙ lacks_hash-view (out-HelperTemplate h).hash.entries in
     rw (ps, hs) refl
 
--- ---- a call whole
+-- ---- a whole call
 
 block_param-view : (o : Option BlockParam) → binding_of (former-HelperTemplate-block_param.map BlockParam Binding binding_view o) ≡ block_param_view o
 block_param-view None = refl
@@ -127,7 +127,7 @@ body-view None = refl
 body-view (Some t) = refl
 
 pub call_view-roll : (x : HelperTemplate-F BlockParam Parameter TemplateElement DecoratorTemplate HelperTemplate Subexpression Template)
-    → call_view (roll-HelperTemplate x) ≡ call (param_view x.name) (args (params_view x.params.items) (pairs_view x.hash.entries))
+    → call_view (roll-HelperTemplate x) ≡ call (param_view x.name) (args (params_view x.params.items) (hash_view x.hash.entries))
     (block_param_view x.block_param) (bodies (body_view x.template) (body_view x.inverse))
     (record { block = x.block; chain = x.chain; indent_before_write = x.indent_before_write })
 call_view-roll x =
@@ -135,7 +135,7 @@ call_view-roll x =
     ∙ rw (block_param-view x.block_param, body-view x.template, body-view x.inverse) refl
 
 pub call_view-out : (h : HelperTemplate)
-    → call_view h ≡ call (param_view (out-HelperTemplate h).name) (args (params_view (out-HelperTemplate h).params.items) (pairs_view (out-HelperTemplate h).hash.entries))
+    → call_view h ≡ call (param_view (out-HelperTemplate h).name) (args (params_view (out-HelperTemplate h).params.items) (hash_view (out-HelperTemplate h).hash.entries))
     (block_param_view (out-HelperTemplate h).block_param) (bodies (body_view (out-HelperTemplate h).template) (body_view (out-HelperTemplate h).inverse))
     (record { block = (out-HelperTemplate h).block; chain = (out-HelperTemplate h).chain; indent_before_write = (out-HelperTemplate h).indent_before_write })
 call_view-out h =

@@ -1,14 +1,14 @@
-pub mod Place
+pub mod Position
 pub mod Tree
 pub mod Calls
 pub mod Nest
 pub mod Machine
-pub mod Cut
+pub mod Tokens
 pub mod Compile
 pub mod Stays
 pub mod ParameterParsing
 pub mod TreeView
-pub mod LineBuildingView
+pub mod ExpressionBuildingView
 pub mod ParameterParsingView
 pub mod NestView
 pub mod ScanView

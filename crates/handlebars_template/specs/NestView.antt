@@ -1,14 +1,14 @@
 -- What the program's open blocks stand for.
 use Rattle.std.specs.Prelude.{◌≡◌, List, [], ◌∷◌, map, reverse, Option, None, Some, option_map}
 use Rattle.std.specs.Option.{option_or}
-use Rattle.handlebars_template.specs.Place.{Place}
+use Rattle.handlebars_template.specs.Position.{Position}
 use Rattle.handlebars_template.specs.Tree.{name, Binding, no_binding, single, both}
-use Rattle.handlebars_template.specs.TreeView.{text, place_of, element_view, param_view, arguments_view}
-use Rattle.handlebars_template.specs.Nest.{BlockKind, helper_opening, raw_opening, decorator_opening, partial_opening, Opening, SourcePiece, NestFault, unexpected, too_deep, mismatched, no_value, PlacedElement, Branch}
-use Rattle.handlebars_template.specs.Machine.{Stage, in_first, in_branch, in_inverse, BlockSoFar, open_in, goes, behind_piece, early_in, late_in}
+use Rattle.handlebars_template.specs.TreeView.{text, position_of, element_view, param_view, arguments_view}
+use Rattle.handlebars_template.specs.Nest.{BlockKind, helper_opening, raw_opening, decorator_opening, partial_opening, Opening, SourcePiece, NestingError, unexpected, too_deep, mismatched, no_value, PositionedElement, Branch}
+use Rattle.handlebars_template.specs.Machine.{Stage, in_first, in_branch, in_inverse, BlockSoFar, open_in, goes, after_piece, early_in, late_in}
 use Rattle.handlebars_template.specs.declared.template.tree.TemplateMapping.{TemplateMapping}
 use Rattle.handlebars_template.specs.declared.template.tree.TemplateElement.{TemplateElement}
-use Rattle.handlebars_template.specs.declared.template.placed.PlacedElements.{PlacedElements}
+use Rattle.handlebars_template.specs.declared.template.positioned.PositionedElements.{PositionedElements}
 use Rattle.handlebars_template.specs.declared.template.chain.BlockNames.{BlockNames}
 use Rattle.handlebars_template.specs.declared.template.chain.BlockNames.TheVariants as names
 use Rattle.handlebars_template.specs.declared.template.chain.BlockKind.{BlockKind as BuiltKind}
@@ -18,20 +18,20 @@ use Rattle.handlebars_template.specs.declared.template.chain.Branch.{Branch as B
 use Rattle.handlebars_template.specs.declared.template.chain.Stage.{Stage as BuiltStage}
 use Rattle.handlebars_template.specs.declared.template.chain.Stage.TheVariants as stage
 use Rattle.handlebars_template.specs.declared.template.nest.OpenBlock.{OpenBlock as BuiltBlock}
-use Rattle.handlebars_template.specs.declared.template.nest.SyntaxFault.{SyntaxFault}
-use Rattle.handlebars_template.specs.declared.template.nest.SyntaxFault.TheVariants as syntax
+use Rattle.handlebars_template.specs.declared.template.nest.SyntaxError.{SyntaxError}
+use Rattle.handlebars_template.specs.declared.template.nest.SyntaxError.TheVariants as syntax
 use Rattle.handlebars_template.specs.declared.template.nest.Late.{Late}
 use Rattle.handlebars_template.specs.declared.template.nest.Late.TheVariants as late
 use Rattle.handlebars_template.specs.declared.template.nest.Nesting.{Nesting}
 
--- each element with its place
-abbrev pub paired : List TemplateElement → List TemplateMapping → List PlacedElement
+-- each element with its position
+abbrev pub paired : List TemplateElement → List TemplateMapping → List PositionedElement
 paired [] ms = []
 paired (e ∷ es) [] = []
-paired (e ∷ es) (m ∷ ms) = record { place = place_of m; element = element_view e } ∷ paired es ms
+paired (e ∷ es) (m ∷ ms) = record { position = position_of m; element = element_view e } ∷ paired es ms
 
-abbrev pub placed_view : PlacedElements → List PlacedElement
-placed_view b = paired b.elements.items b.mapping.items
+abbrev pub positioned_view : PositionedElements → List PositionedElement
+positioned_view b = paired b.elements.items b.mapping.items
 
 abbrev pub names_view : BlockNames → Binding
 names_view names.Unbound = no_binding
@@ -55,7 +55,7 @@ opening_view o = record {
 }
 
 abbrev pub branch_view : BuiltBranch → Branch
-branch_view b = record { opening = opening_view b.opening; elements = placed_view b.elements }
+branch_view b = record { opening = opening_view b.opening; elements = positioned_view b.elements }
 
 abbrev pub stage_view : BuiltStage → Stage
 stage_view stage.First = in_first
@@ -64,51 +64,51 @@ stage_view stage.Inverse = in_inverse
 
 abbrev pub open_block_view : BuiltBlock → BlockSoFar
 open_block_view b = record {
-  place = place_of b.place;
+  position = position_of b.position;
   opening = opening_view b.opening;
   around = b.around;
-  first = placed_view b.first;
+  first = positioned_view b.first;
   branches = map branch_view b.branches.items;
   stage = stage_view b.stage;
-  outside = placed_view b.outside;
+  outside = positioned_view b.outside;
 }
 
 -- the innermost first
 abbrev pub stack_view : List BuiltBlock → List BlockSoFar
 stack_view bs = reverse (map open_block_view bs)
 
-abbrev pub late_fault : Late → NestFault
-late_fault (late.NoValue raw) = no_value (text raw)
-late_fault (late.Mismatched k opened closing p) = mismatched (kind_view k) (text opened) (text closing) (place_of p)
+abbrev pub late_nesting_error : Late → NestingError
+late_nesting_error (late.NoValue raw) = no_value (text raw)
+late_nesting_error (late.Mismatched k opened closing p) = mismatched (kind_view k) (text opened) (text closing) (position_of p)
 
-abbrev pub late_view : Option Late → Option NestFault
+abbrev pub late_view : Option Late → Option NestingError
 late_view None = None
-late_view (Some l) = Some (late_fault l)
+late_view (Some l) = Some (late_nesting_error l)
 
 abbrev pub open_blocks : Nesting → List BlockSoFar
 open_blocks state = stack_view state.stack.items
 
-abbrev pub late_of : Nesting → Option NestFault
+abbrev pub late_of : Nesting → Option NestingError
 late_of state = late_view state.late
 
--- why the syntax refuses a piece, if it does
-abbrev pub early : Nesting → SourcePiece → Option NestFault
+-- why the syntax rejects a piece, if it does
+abbrev pub early : Nesting → SourcePiece → Option NestingError
 early state x = early_in state.depth (open_in (open_blocks state)) x
 
-abbrev pub syntax_fault : Place → SyntaxFault → NestFault
-syntax_fault p syntax.Unexpected = unexpected p
-syntax_fault p syntax.TooDeep = too_deep p
+abbrev pub nesting_error : Position → SyntaxError → NestingError
+nesting_error p syntax.Unexpected = unexpected p
+nesting_error p syntax.TooDeep = too_deep p
 
--- what is said of a piece at this place, before it stands
-abbrev pub Looks : Place → Option NestFault → Option SyntaxFault → Type 0
-Looks p fault seen = option_map (syntax_fault p) seen ≡ fault
+-- what the check of a piece at this position returns, before the piece is added
+abbrev pub Looks : Position → Option NestingError → Option SyntaxError → Type 0
+Looks p error seen = option_map (nesting_error p) seen ≡ error
 
--- the state behind a piece
-pub record IsBehind (old : Nesting) (x : SourcePiece) (new : Nesting) : Type 0 where
-  pub goes_on : behind_piece x old.depth (open_blocks old) (placed_view old.elements)
-      ≡ goes new.depth (open_blocks new) (placed_view new.elements)
+-- the state after a piece
+pub record IsAfter (old : Nesting) (x : SourcePiece) (new : Nesting) : Type 0 where
+  pub goes_on : after_piece x old.depth (open_blocks old) (positioned_view old.elements)
+      ≡ goes new.depth (open_blocks new) (positioned_view new.elements)
   pub late : late_of new ≡ option_or (late_of old) (late_in (open_in (open_blocks old)) x)
 
--- It does what the piece does, where that may stand.
-abbrev pub Does : Nesting → SourcePiece → Nesting → Type 0
-Does old x new = early old x ≡ None → IsBehind old x new
+-- If the piece is allowed, the new state is the one after it.
+abbrev pub AppliesPiece : Nesting → SourcePiece → Nesting → Type 0
+AppliesPiece old x new = early old x ≡ None → IsAfter old x new

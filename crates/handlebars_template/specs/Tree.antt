@@ -1,27 +1,27 @@
--- A template's tree, as definitions see it: texts are lists of bytes, collections are lists.
+-- The tree of a template, as definitions see it: texts are lists of bytes, collections are lists.
 use Rattle.std.specs.Prelude.{Bool, true, false, not, ◌&&◌, List, [], ◌∷◌, Option, None, Some}
 use Rattle.serde_json.specs.Data.{Data}
 use Rattle.handlebars_base.specs.Bytes.{Text}
 use Rattle.handlebars_base.specs.Path.{Reference, raw_of}
 use Rattle.handlebars_base.specs.Optional.{◌>>=◌, with_or}
-use Rattle.handlebars_template.specs.Place.{Place}
+use Rattle.handlebars_template.specs.Position.{Position}
 
--- Of a call: whether it is a block; whether that is chained to the block around it, or has one chained to it; and
--- whether the indentation of its line is written before what it writes.
+-- The marks of a call: whether it is a block; whether that block is chained to the block around it, or has one chained to
+-- it; and whether the indentation of its line is written before its output.
 pub record CallMarks : Type 0 where
   pub block : Bool
   pub chain : Bool
   pub indent_before_write : Bool
 
--- Of a decorator or an inclusion: the indentation of its line, and whether that is written before what it writes.
+-- The marks of a decorator or a partial: the indentation of its line, and whether that is written before its output.
 pub record DecoratorMarks : Type 0 where
   pub indent : Option Text
   pub indent_before_write : Bool
 
 mutual
-  -- its name, its elements, and the places of its first elements
+  -- its name, its elements, and the positions of its first elements
   pub data Tree : Type 0 where
-    tree : Option Text → Elements → List Place → Tree
+    tree : Option Text → Elements → List Position → Tree
 
   pub data Elements : Type 0 where
     no_elements : Elements
@@ -30,7 +30,7 @@ mutual
   pub data Element : Type 0 where
     raw_string : Text → Element
     html_expression : Call → Element
-    expression : Call → Element
+    escaped_expression : Call → Element
     helper_block : Call → Element
     decorator_expression : Decorator → Element
     decorator_block : Decorator → Element
@@ -38,16 +38,16 @@ mutual
     partial_block : Decorator → Element
     comment : Text → Element
 
-  -- a value or a call of a helper: its name, its arguments, the names that it binds, and its bodies
+  -- a value or a helper call: its name, its arguments, the names that it binds, and its bodies
   pub data Call : Type 0 where
     call : Param → Args → Binding → Bodies → CallMarks → Call
 
-  -- a decorator or an inclusion: its name, its arguments and its body
+  -- a decorator or a partial: its name, its arguments and its body
   pub data Decorator : Type 0 where
     decorator : Param → Args → Body → DecoratorMarks → Decorator
 
   pub data Args : Type 0 where
-    args : Params → Pairs → Args
+    args : Params → Hash → Args
 
   pub data Param : Type 0 where
     name : Text → Param
@@ -59,10 +59,10 @@ mutual
     no_params : Params
     param : Param → Params → Params
 
-  -- in the order of their keys
-  pub data Pairs : Type 0 where
-    no_pairs : Pairs
-    pair : Text → Param → Pairs → Pairs
+  -- the hash arguments, in the order of their keys
+  pub data Hash : Type 0 where
+    no_hash : Hash
+    hash_pair : Text → Param → Hash → Hash
 
   pub data Binding : Type 0 where
     no_binding : Binding
@@ -86,7 +86,7 @@ params_of [] = no_params
 params_of (p ∷ ps) = param p (params_of ps)
 
 abbrev pub no_arguments : Args
-no_arguments = args no_params no_pairs
+no_arguments = args no_params no_hash
 
 -- no name and no elements
 abbrev pub empty_tree : Tree
@@ -95,18 +95,18 @@ empty_tree = tree None no_elements []
 -- ---- the parts of a tree
 
 abbrev pub tree_name : Tree → Option Text
-tree_name (tree n es places) = n
+tree_name (tree n es positions) = n
 
 abbrev pub tree_elements : Tree → Elements
-tree_elements (tree n es places) = es
+tree_elements (tree n es positions) = es
 
 -- ---- the parts of arguments and bodies
 
 abbrev pub args_params : Args → Params
 args_params (args ps hs) = ps
 
-abbrev pub args_pairs : Args → Pairs
-args_pairs (args ps hs) = hs
+abbrev pub args_hash : Args → Hash
+args_hash (args ps hs) = hs
 
 abbrev pub bodies_body : Bodies → Body
 bodies_body (bodies b i) = b
@@ -125,8 +125,8 @@ call_args (call n xs b t marks) = xs
 abbrev pub call_params : Call → Params
 call_params h = args_params (call_args h)
 
-abbrev pub call_pairs : Call → Pairs
-call_pairs h = args_pairs (call_args h)
+abbrev pub call_hash : Call → Hash
+call_hash h = args_hash (call_args h)
 
 abbrev pub call_binding : Call → Binding
 call_binding (call n xs b t marks) = b
@@ -143,7 +143,7 @@ call_inverse h = bodies_inverse (call_bodies h)
 abbrev pub call_marks : Call → CallMarks
 call_marks (call n xs b t marks) = marks
 
--- ---- the parts of a decorator or an inclusion
+-- ---- the parts of a decorator or a partial
 
 abbrev pub decorator_name : Decorator → Param
 decorator_name (decorator n xs t marks) = n
@@ -170,26 +170,27 @@ abbrev pub lacks_params : Params → Bool
 lacks_params no_params = true
 lacks_params (param p ps) = false
 
-abbrev pub lacks_pairs : Pairs → Bool
-lacks_pairs no_pairs = true
-lacks_pairs (pair k p hs) = false
+abbrev pub lacks_hash : Hash → Bool
+lacks_hash no_hash = true
+lacks_hash (hash_pair k p hs) = false
 
 abbrev pub lacks_arguments : Args → Bool
-lacks_arguments xs = lacks_params (args_params xs) && lacks_pairs (args_pairs xs)
+lacks_arguments xs = lacks_params (args_params xs) && lacks_hash (args_hash xs)
 
--- Of an expression: it stands alone, without parameters and pairs. Then it is a value, unless a helper has its name.
+-- Whether an expression is a name alone, without parameters and hash arguments. It is then a value, unless a helper has its
+-- name.
 abbrev pub is_value : Call → Bool
 is_value h = lacks_arguments (call_args h)
 
 -- the call of an expression; no other element has one here
 abbrev pub expression_call : Element → Option Call
-expression_call (expression h) = Some h
+expression_call (escaped_expression h) = Some h
 expression_call e = None
 
 -- the text of an expression's name, as written
 abbrev pub element_name : Element → Option Text
 element_name e = expression_call e >>= λ h. as_name (call_name h)
 
--- an expression with parameters or pairs
+-- an expression with parameters or hash arguments
 abbrev pub is_helper : Element → Bool
 is_helper e = with_or (expression_call e) (λ h. not (is_value h)) false

@@ -4,8 +4,8 @@ use Rattle.std.specs.declared.alloc.Global.{Global}
 use Rattle.serde_json.specs.View as json
 use Rattle.handlebars_base.specs.Bytes.{Text}
 use Rattle.handlebars_base.specs.PathView.{reference_of}
-use Rattle.handlebars_template.specs.Place.{Place}
-use Rattle.handlebars_template.specs.Tree.{CallMarks, DecoratorMarks, Tree, tree, Elements, elements_of, Element, raw_string, html_expression, expression, helper_block, decorator_expression, decorator_block, partial_expression, partial_block, comment, Call, call, Decorator, decorator, Args, args, bodies, Param, name, path, literal, subexpression, Params, params_of, Pairs, no_pairs, pair, Binding, no_binding, single, both, Body, no_body, body}
+use Rattle.handlebars_template.specs.Position.{Position}
+use Rattle.handlebars_template.specs.Tree.{CallMarks, DecoratorMarks, Tree, tree, Elements, elements_of, Element, raw_string, html_expression, escaped_expression, helper_block, decorator_expression, decorator_block, partial_expression, partial_block, comment, Call, call, Decorator, decorator, Args, args, bodies, Param, name, path, literal, subexpression, Params, params_of, Hash, no_hash, hash_pair, Binding, no_binding, single, both, Body, no_body, body}
 use Rattle.handlebars_template.specs.declared.template.arguments.Arguments.{Arguments}
 use Rattle.handlebars_template.specs.declared.template.tree.TemplateMapping.{TemplateMapping}
 use Rattle.handlebars_template.specs.declared.template.tree.Template.{Template, fold-Template}
@@ -21,12 +21,12 @@ use Rattle.handlebars_template.specs.declared.template.tree.BlockParam.TheOpen.{
 abbrev pub text : String Global → Text
 text s = string_bytes s
 
-abbrev pub place_of : TemplateMapping → Place
-place_of m = record { line = m.0; column = m.1 }
+abbrev pub position_of : TemplateMapping → Position
+position_of m = record { line = m.0; column = m.1 }
 
-abbrev pub pairs_of : List (String Global × Param) → Pairs
-pairs_of [] = no_pairs
-pairs_of (h ∷ hs) = pair (text h.0) h.1 (pairs_of hs)
+abbrev pub hash_of : List (String Global × Param) → Hash
+hash_of [] = no_hash
+hash_of (h ∷ hs) = hash_pair (text h.0) h.1 (hash_of hs)
 
 abbrev pub binding_of : Option Binding → Binding
 binding_of None = no_binding
@@ -36,7 +36,7 @@ abbrev pub body_of : Option Tree → Body
 body_of None = no_body
 body_of (Some t) = body t
 
--- One level of a type, over what stands for the types inside it.
+-- One level of a type, over the views of the types inside it.
 abbrev pub Layer : (Type 0 → Type 0 → Type 0 → Type 0 → Type 0 → Type 0 → Type 0 → Type 0) → Type 0
 Layer Level = Level Binding Param Element Decorator Call Element Tree
 
@@ -53,7 +53,7 @@ param_layer (Parameter-F.Subexpression s) = subexpression s
 abbrev pub element_layer : Layer TemplateElement-F → Element
 element_layer (TemplateElement-F.RawString s) = raw_string (text s)
 element_layer (TemplateElement-F.HtmlExpression b) = html_expression b.value
-element_layer (TemplateElement-F.Expression b) = expression b.value
+element_layer (TemplateElement-F.Expression b) = escaped_expression b.value
 element_layer (TemplateElement-F.HelperBlock b) = helper_block b.value
 element_layer (TemplateElement-F.DecoratorExpression b) = decorator_expression b.value
 element_layer (TemplateElement-F.DecoratorBlock b) = decorator_block b.value
@@ -63,12 +63,12 @@ element_layer (TemplateElement-F.Comment s) = comment (text s)
 
 abbrev pub decorator_layer : Layer DecoratorTemplate-F → Decorator
 decorator_layer t =
-    decorator t.name (args (params_of t.params.items) (pairs_of t.hash.entries)) (body_of t.template)
+    decorator t.name (args (params_of t.params.items) (hash_of t.hash.entries)) (body_of t.template)
     (record { indent = option_map text t.indent; indent_before_write = t.indent_before_write })
 
 abbrev pub call_layer : Layer HelperTemplate-F → Call
 call_layer h =
-    call h.name (args (params_of h.params.items) (pairs_of h.hash.entries)) (binding_of h.block_param)
+    call h.name (args (params_of h.params.items) (hash_of h.hash.entries)) (binding_of h.block_param)
     (bodies (body_of h.template) (body_of h.inverse))
     (record { block = h.block; chain = h.chain; indent_before_write = h.indent_before_write })
 
@@ -76,9 +76,9 @@ abbrev pub subexpression_layer : Layer Subexpression-F → Element
 subexpression_layer s = s.element.value
 
 abbrev pub tree_layer : Layer Template-F → Tree
-tree_layer t = tree (option_map text t.name) (elements_of t.elements.items) (map place_of t.mapping.items)
+tree_layer t = tree (option_map text t.name) (elements_of t.elements.items) (map position_of t.mapping.items)
 
--- A type's fold takes what each level stands for.
+-- The fold of a type takes the view of each level.
 abbrev pub Fold : Type 0 → Type 0
 Fold View =
     (Layer BlockParam-F → Binding) → (Layer Parameter-F → Param) → (Layer TemplateElement-F → Element)
@@ -116,8 +116,8 @@ elements_view es = elements_of (map element_view es)
 abbrev pub params_view : List Parameter → Params
 params_view ps = params_of (map param_view ps)
 
-abbrev pub pairs_view : List (String Global × Parameter) → Pairs
-pairs_view hs = pairs_of (map (λ h. (h.0, param_view h.1)) hs)
+abbrev pub hash_view : List (String Global × Parameter) → Hash
+hash_view hs = hash_of (map (λ h. (h.0, param_view h.1)) hs)
 
 abbrev pub body_view : Option Template → Body
 body_view t = body_of (option_map tree_view t)
@@ -126,15 +126,15 @@ abbrev pub block_param_view : Option BlockParam → Binding
 block_param_view b = binding_of (option_map binding_view b)
 
 abbrev pub arguments_view : Arguments → Args
-arguments_view xs = args (params_view xs.params.items) (pairs_view xs.hash.entries)
+arguments_view xs = args (params_view xs.params.items) (hash_view xs.hash.entries)
 
--- the call that a tag's inside is, without bodies
+-- the call that the inside of a tag is, without bodies
 abbrev pub spec_call : ExpressionSpec → CallMarks → Call
 spec_call spec marks =
-    call (param_view spec.name) (args (params_view spec.params.items) (pairs_view spec.hash.entries))
+    call (param_view spec.name) (args (params_view spec.params.items) (hash_view spec.hash.entries))
     (block_param_view spec.block_param) (bodies no_body no_body) marks
 
--- the decorator or the inclusion that a tag's inside is, without a body
+-- the decorator or the partial that the inside of a tag is, without a body
 abbrev pub spec_decorator : ExpressionSpec → DecoratorMarks → Decorator
 spec_decorator spec marks =
-    decorator (param_view spec.name) (args (params_view spec.params.items) (pairs_view spec.hash.entries)) no_body marks
+    decorator (param_view spec.name) (args (params_view spec.params.items) (hash_view spec.hash.entries)) no_body marks

@@ -1,4 +1,4 @@
-//! Templates: from source text to tree.
+//! Templates: their trees, and the compilation of source text to a tree.
 #![tactic(auto)]
 
 pub mod laws;

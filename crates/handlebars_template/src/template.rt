@@ -1,15 +1,15 @@
-//! A template's tree, and how a source is compiled to it.
+//! The tree of a template, and the compilation of a source to it.
 
 mod arguments;
 mod build;
 mod chain;
 mod compile;
 mod copy;
-mod line;
+mod expression;
 mod nest;
 mod parameter;
-mod place;
-mod placed;
+mod position;
+mod positioned;
 mod scan;
 mod tags;
 mod tree;

@@ -1,23 +1,22 @@
-//! `hbs [--strict] TEMPLATE DATA [FOLDER]`: prints what a template gives over JSON data, with the templates of a
-//! folder.
+//! `hbs [--strict] TEMPLATE DATA [FOLDER]`: prints a template, rendered over JSON data with the templates of a folder.
 #![tactic(auto)]
 
+mod arguments;
 mod failure;
 mod run;
 mod text;
-mod words;
 
+use arguments::command_line;
 use handlebars::FileReader;
 use run::run;
 use std::process::ExitCode;
-use words::command_line;
 
 fn main(rt: HostRuntime) -> ExitCode {
-    let words = command_line(&rt);
+    let arguments = command_line(&rt);
     let mut files = FileReader::new(&rt, rt.alloc());
     let status = run(
         rt.alloc(),
-        words,
+        arguments,
         &mut files,
         &mut rt.stdout(),
         &mut rt.stderr(),

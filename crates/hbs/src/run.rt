@@ -1,7 +1,7 @@
 //! A run of the program, over any files and any outputs.
 
 ghost use Rattle.std.specs.Prelude.{◌≡◌, ◌≢◌, ◌≤◌, Err, IfErr, IfOk, length};
-ghost use Rattle.hbs.specs.Words.{begins_strict, file_words};
+ghost use Rattle.hbs.specs.Arguments.{begins_strict, file_arguments};
 
 use crate::failure::Failure;
 use crate::text::{Request, print_text};
@@ -9,26 +9,28 @@ use handlebars::TemplateReader;
 use std::alloc::Global;
 use std::io::Write;
 
-/// Renders the template that the first word names over the data that the second one names, with the templates of the
-/// folder that a third one names, in strict mode where `--strict` stands before them, and answers the status that the
-/// program ends with. `words` is an error where they can't be had. Other than two or three words, behind `--strict` or not,
-/// are refused before any file is read. A run that fails says why in one line on `err`; what was written to `out` before it
-/// fails stays.
+/// Renders a template and returns the exit status.
+///
+/// The first argument names the template, the second one the data, and an optional third one a folder of templates. `--strict`
+/// before them turns on strict mode. `arguments` is an error if the arguments can't be read.
+///
+/// If the arguments after a first `--strict` are not two or three, the status is 2, and no file is read. A run that fails
+/// reports why in one line on `err`. Output written to `out` before an error is not taken back.
 pub fn run<'a, R: TemplateReader, O: Write, E: Write>(
     alloc: Global,
-    words: Result<Vec<String>, Failure<'a>>,
+    arguments: Result<Vec<String>, Failure<'a>>,
     files: &mut R,
     out: &mut O,
     err: &mut E,
 ) -> u8
     ensures status { result ≤ 2 }
-    ensures usage { IfOk words.entry (λ given. length (file_words given.items) ≢ 2
-        → length (file_words given.items) ≢ 3 → result ≡ 2) }
-    ensures unread { IfErr words.entry (λ e. e ≡ Failure.Usage → result ≡ 2) }
-    ensures memory { IfErr words.entry (λ e. e ≡ Failure.OutOfMemory → result ≡ 1) }
+    ensures usage { IfOk arguments.entry (λ given. length (file_arguments given.items) ≢ 2
+        → length (file_arguments given.items) ≢ 3 → result ≡ 2) }
+    ensures unread { IfErr arguments.entry (λ e. e ≡ Failure.Usage → result ≡ 2) }
+    ensures memory { IfErr arguments.entry (λ e. e ≡ Failure.OutOfMemory → result ≡ 1) }
 {
-    match words {
-        Ok(words) => match print(alloc, words.as_slice(), files, out) {
+    match arguments {
+        Ok(arguments) => match print(alloc, arguments.as_slice(), files, out) {
             Ok(()) => 0,
             Err(failure) => report(&failure, err),
         },
@@ -36,7 +38,7 @@ pub fn run<'a, R: TemplateReader, O: Write, E: Write>(
     }
 }
 
-// Says a failure, and answers its status. Where it can't be said, the status still tells of it.
+// Reports a failure and returns its status. If it can't be printed, the status still reports it.
 fn report<E: Write>(failure: &Failure<'_>, err: &mut E) -> u8
     ensures bound { result ≤ 2 }
     ensures usage { failure.now ≡ Failure.Usage → result ≡ 2 }
@@ -48,14 +50,14 @@ fn report<E: Write>(failure: &Failure<'_>, err: &mut E) -> u8
 
 fn print<'a, R: TemplateReader, O: Write>(
     alloc: Global,
-    words: &'a [String],
+    arguments: &'a [String],
     files: &mut R,
     out: &mut O,
 ) -> Result<(), Failure<'a>>
-    ensures usage { length (file_words words.now) ≢ 2 → length (file_words words.now) ≢ 3 → result ≡ Err Failure.Usage }
+    ensures usage { length (file_arguments arguments.now) ≢ 2 → length (file_arguments arguments.now) ≢ 3 → result ≡ Err Failure.Usage }
 {
-    let (strict, words) = split_strict(words);
-    let task = match words {
+    let (strict, arguments) = split_strict(arguments);
+    let task = match arguments {
         [template, data] => Request {
             strict,
             template: template.as_str(),
@@ -73,19 +75,19 @@ fn print<'a, R: TemplateReader, O: Write>(
     print_text(alloc, &task, files, out)
 }
 
-// Whether the first word is `--strict`, and the words that name files.
-fn split_strict(words: &[String]) -> (bool, &[String])
-    ensures strict { result.0 ≡ begins_strict words.now }
-    ensures words { result.1.now ≡ file_words words.now }
+// Whether the first argument is `--strict`, and the arguments that name files.
+fn split_strict(arguments: &[String]) -> (bool, &[String])
+    ensures strict { result.0 ≡ begins_strict arguments.now }
+    ensures arguments { result.1.now ≡ file_arguments arguments.now }
 {
-    match words.split_first() {
+    match arguments.split_first() {
         Some((first, rest)) => {
             if first.as_str() == "--strict" {
                 (true, rest)
             } else {
-                (false, words)
+                (false, arguments)
             }
         }
-        None => (false, words),
+        None => (false, arguments),
     }
 }

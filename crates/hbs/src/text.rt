@@ -1,4 +1,4 @@
-//! The text that a run prints.
+//! The output of a run.
 
 use crate::failure::Failure;
 use handlebars::{Context, DirectorySourceOptions, JsonValue, NoFiles, Registry, TemplateReader};
@@ -16,8 +16,8 @@ pub struct Request<'a> {
     pub folder: Option<&'a str>,
 }
 
-/// Prints what a template gives over data: the template is read first, then the data, then the folder. What is printed
-/// before a fault stays.
+/// Prints a template, rendered over data. The template is read first, then the data, then the folder. Output written before an
+/// error is not taken back.
 pub fn print_text<'a, R: TemplateReader, O: Write>(
     alloc: Global,
     task: &Request<'a>,
@@ -43,7 +43,7 @@ fn print_over<'a, R: TemplateReader, O: Write>(
     print_with(alloc, task, &mut registry, source, &context, files, out)
 }
 
-// With the templates of the folder.
+// Registers the templates of the folder, and renders.
 fn print_with<'a, R: TemplateReader, O: Write>(
     alloc: Global,
     task: &Request<'a>,
@@ -59,7 +59,7 @@ fn print_with<'a, R: TemplateReader, O: Write>(
     write_text(alloc, registry, source, context, out)
 }
 
-// Through a buffer, which is emptied at a fault too.
+// Writes through a buffer, which is also flushed after an error.
 fn write_text<'a, O: Write>(
     alloc: Global,
     registry: &Registry,
@@ -99,7 +99,7 @@ fn read<'a, R: TemplateReader>(path: &'a str, files: &mut R) -> Result<String, F
     }
 }
 
-// The value that the text of a file is.
+// Reads a file that holds a JSON value.
 fn read_json<'a, R: TemplateReader>(
     alloc: Global,
     path: &'a str,

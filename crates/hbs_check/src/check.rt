@@ -1,4 +1,4 @@
-//! What a run says of a template.
+//! The report of a run about a template.
 
 ghost use Rattle.std.specs.Prelude.{◌≡◌, IfOk, length, nat_eq};
 
@@ -16,8 +16,8 @@ pub struct Request<'a> {
     pub folder: Option<&'a str>,
 }
 
-/// Prints `fixed`, or each place that keeps the markup from being fixed, one a line, and answers which it is: the template is
-/// read first, then the folder.
+/// Prints `fixed`, or each location that prevents fixed markup, one a line. Returns whether the markup is fixed. The template
+/// is read first, then the folder.
 pub fn check<'a, R: TemplateReader, O: Write>(
     alloc: Global,
     task: &Request<'a>,
@@ -30,7 +30,7 @@ pub fn check<'a, R: TemplateReader, O: Write>(
     check_with(task, &mut registry, source.as_str(), files, out)
 }
 
-// With the templates of the folder.
+// Registers the templates of the folder, and checks.
 fn check_with<'a, R: TemplateReader, O: Write>(
     task: &Request<'a>,
     registry: &mut Registry,
@@ -42,11 +42,14 @@ fn check_with<'a, R: TemplateReader, O: Write>(
         registry.register_templates_directory(folder, DirectorySourceOptions::default(), files)?;
     }
     let faults = registry.template_markup_faults(source, &mut NoFiles)?;
-    print_places(&faults, out)
+    print_locations(&faults, out)
 }
 
-// All places, or that there is none.
-fn print_places<'a, O: Write>(faults: &Vec<MarkupFault>, out: &mut O) -> Result<bool, Failure<'a>>
+// Prints all locations, or that there are none.
+fn print_locations<'a, O: Write>(
+    faults: &Vec<MarkupFault>,
+    out: &mut O,
+) -> Result<bool, Failure<'a>>
     ensures fixed { IfOk result (λ fixed. fixed ≡ nat_eq (length faults.now.items) 0) }
 {
     if faults.is_empty() {

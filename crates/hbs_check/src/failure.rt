@@ -1,4 +1,4 @@
-//! Why a run can't say whether the markup is fixed.
+//! Why a run can't decide whether the markup is fixed.
 
 ghost use Rattle.std.specs.Prelude.{◌≡◌};
 
@@ -7,21 +7,21 @@ use std::alloc::AllocError;
 use std::io::ErrorKind;
 use std::{fmt, io};
 
-/// Why a run can't say whether the markup is fixed; the text is a path.
+/// Why a run can't decide whether the markup is fixed. The text is a path.
 #[derive(Drop)]
 pub enum Failure<'a> {
     Usage,
     CannotRead(&'a str),
-    /// A template of the folder is refused.
+    /// A template of the folder can't be registered.
     NotRegistered(TemplateError),
-    /// The template is refused.
-    Refused(RenderError),
+    /// The template is rejected.
+    NotRendered(RenderError),
     OutOfMemory,
     CannotWrite,
 }
 
 impl<'a> Failure<'a> {
-    /// The failure of a reader at a path.
+    /// Returns the failure of a reader at a path.
     pub fn of_reader(path: &'a str, cause: io::Error) -> Failure<'a> {
         match cause.kind() {
             ErrorKind::OutOfMemory => Failure::OutOfMemory,
@@ -48,9 +48,9 @@ impl From<TemplateError> for Failure<'_> {
 
 impl From<RenderError> for Failure<'_> {
     fn from(cause: RenderError) -> Self
-        ensures { result ≡ Failure.Refused cause }
+        ensures { result ≡ Failure.NotRendered cause }
     {
-        Failure::Refused(cause)
+        Failure::NotRendered(cause)
     }
 }
 
@@ -60,7 +60,7 @@ impl fmt::Display for Failure<'_> {
             Failure::Usage => f.write_str("usage: hbs_check [--strict] TEMPLATE [FOLDER]"),
             Failure::CannotRead(path) => write!(f, "hbs_check: cannot read {path}"),
             Failure::NotRegistered(cause) => write!(f, "{cause}"),
-            Failure::Refused(cause) => write!(f, "{cause}"),
+            Failure::NotRendered(cause) => write!(f, "{cause}"),
             Failure::OutOfMemory => f.write_str("Out of memory"),
             Failure::CannotWrite => f.write_str("hbs_check: cannot write"),
         }

@@ -8,23 +8,25 @@ use handlebars::TemplateReader;
 use std::alloc::Global;
 use std::io::Write;
 
-/// Says whether the markup is fixed that the template writes which the first word names, with the templates of the folder
-/// that a second one names, and answers the status that the program ends with: 0 where it is fixed, 1 where it isn't, and 2
-/// where that can't be said, for wrong words, for a file that can't be read or a template that is refused, or for want of
-/// memory. Then one line on `err` says why. `--strict` before them changes nothing of what is said: it is taken so that the
-/// words are those of `hbs`.
+/// Decides whether the markup of a template is fixed, and returns the exit status.
+///
+/// The first argument names the template, and an optional second one a folder of templates. `--strict` before them is accepted
+/// so that the arguments are those of `hbs`. It does not change the result.
+///
+/// The status is 0 if the markup is fixed, and 1 if it isn't. It is 2 if this can't be decided: for wrong arguments, for a file
+/// that can't be read, for a template that is rejected, or when memory runs out. One line on `err` then reports why.
 pub fn run<'a, R: TemplateReader, O: Write, E: Write>(
     alloc: Global,
-    words: Result<Vec<String>, Failure<'a>>,
+    arguments: Result<Vec<String>, Failure<'a>>,
     files: &mut R,
     out: &mut O,
     err: &mut E,
 ) -> u8
     ensures status { result ≤ 2 }
-    ensures unsaid { IfErr words.entry (λ e. result ≡ 2) }
+    ensures unsaid { IfErr arguments.entry (λ e. result ≡ 2) }
 {
-    match words {
-        Ok(words) => match checked(alloc, words.as_slice(), files, out) {
+    match arguments {
+        Ok(arguments) => match checked(alloc, arguments.as_slice(), files, out) {
             Ok(fixed) => status(fixed),
             Err(failure) => report(&failure, err),
         },
@@ -38,7 +40,7 @@ fn status(fixed: bool) -> u8
     if fixed { 0 } else { 1 }
 }
 
-// Says why nothing can be said. Where that can't be written, the status still tells of it.
+// Reports why nothing can be decided. If it can't be printed, the status still reports it.
 fn report<E: Write>(failure: &Failure<'_>, err: &mut E) -> u8
     ensures { result ≡ 2 }
 {
@@ -48,12 +50,12 @@ fn report<E: Write>(failure: &Failure<'_>, err: &mut E) -> u8
 
 fn checked<'a, R: TemplateReader, O: Write>(
     alloc: Global,
-    words: &'a [String],
+    arguments: &'a [String],
     files: &mut R,
     out: &mut O,
 ) -> Result<bool, Failure<'a>> {
-    let (strict, words) = split_strict(words);
-    let task = match words {
+    let (strict, arguments) = split_strict(arguments);
+    let task = match arguments {
         [template] => Request {
             strict,
             template: template.as_str(),
@@ -69,16 +71,16 @@ fn checked<'a, R: TemplateReader, O: Write>(
     check(alloc, &task, files, out)
 }
 
-// Whether the first word is `--strict`, and the words that name files.
-fn split_strict(words: &[String]) -> (bool, &[String]) {
-    match words.split_first() {
+// Whether the first argument is `--strict`, and the arguments that name files.
+fn split_strict(arguments: &[String]) -> (bool, &[String]) {
+    match arguments.split_first() {
         Some((first, rest)) => {
             if first.as_str() == "--strict" {
                 (true, rest)
             } else {
-                (false, words)
+                (false, arguments)
             }
         }
-        None => (false, words),
+        None => (false, arguments),
     }
 }

@@ -1,4 +1,4 @@
 pub mod Line
 pub mod Marks
 pub mod Printed
-pub mod Words
+pub mod Arguments

@@ -1,21 +1,21 @@
--- What is printed of pieces as lines.
+-- How pieces are printed as lines.
 use Rattle.std.specs.Prelude.{◌≡◌, [], ◌++◌, if◌then◌else◌, Option, Some}
 use Rattle.handlebars_base.specs.Bytes.{Text}
-use Rattle.handlebars_meaning.specs.Told.{Told}
-use Rattle.hbs_origins.specs.Line.{line_of}
+use Rattle.handlebars_semantics.specs.Emitted.{Emitted}
+use Rattle.hbs_origins.specs.Line.{printed_text}
 use Rattle.hbs_origins.specs.Marks.{brings_mark}
 use Rattle.hbs_origins.specs.declared.request.Form.{Form}
 use Rattle.hbs_origins.specs.declared.request.Form.TheVariants.{Lines, Marks, Page}
 
--- what a piece is printed as: its line, or that of one that brings a mark in; what it is on a page is left open
-abbrev pub printed_as : Form → Text → Told → Text
-printed_as Lines first told = line_of first told
-printed_as Marks first told =
-    if brings_mark told.provenance.kind told.text then line_of first told else []
-printed_as Page first told = []
+-- How a piece is printed: as its line, or as that only if it brings in a mark. How it is printed on a page is left open.
+abbrev pub printed_as : Form → Text → Emitted → Text
+printed_as Lines first emitted = printed_text first emitted
+printed_as Marks first emitted =
+    if brings_mark emitted.provenance.kind emitted.text then printed_text first emitted else []
+printed_as Page first emitted = []
 
--- Behind what a writer held and what was gathered for it, this text is held or gathered now. Of a writer that doesn't tell what
--- it holds nothing is said.
-abbrev pub PrintsBehind : Option Text → Text → Text → Option Text → Text → Type 0
-PrintsBehind before gathered text after left =
+-- Before, the writer held some text, and another one was buffered for it. After, this text is appended, and is held or
+-- buffered. If the contract of the writer doesn't state what it holds, this states nothing.
+abbrev pub PrintsAfter : Option Text → Text → Text → Option Text → Text → Type 0
+PrintsAfter before gathered text after left =
     (held : Text) → before ≡ Some held → (now : Text) × (after ≡ Some now) × (now ++ left ≡ (held ++ gathered) ++ text)

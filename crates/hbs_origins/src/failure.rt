@@ -1,4 +1,4 @@
-//! Why a run ends before its rendering does, and what it says of that.
+//! Why a run fails, and what it prints then.
 
 ghost use Rattle.std.specs.IoError.{error_kind};
 ghost use Rattle.std.specs.Prelude.{◌≡◌, ◌≢◌, ◌<◌, ◌≤◌};
@@ -11,20 +11,20 @@ use std::alloc::AllocError;
 use std::io::ErrorKind;
 use std::{fmt, io};
 
-/// Why a run ends before its rendering does; the texts are paths.
+/// Why a run fails. The texts are paths.
 #[derive(Drop)]
 pub enum Failure<'a> {
     Usage,
     CannotRead(&'a str),
     NotJson(&'a str),
-    /// A template of the folder is refused.
+    /// A template of the folder can't be registered.
     NotRegistered(TemplateError),
-    Refused(RenderError),
+    NotRendered(RenderError),
     OutOfMemory,
 }
 
 impl<'a> Failure<'a> {
-    /// The failure of a reader at a path.
+    /// Returns the failure of a reader at a path.
     pub fn of_reader(path: &'a str, cause: io::Error) -> Failure<'a>
         ensures memory { error_kind cause ≡ OutOfMemory → result ≡ Failure.OutOfMemory }
         ensures other { error_kind cause ≢ OutOfMemory → result ≡ Failure.CannotRead path.entry }
@@ -35,21 +35,21 @@ impl<'a> Failure<'a> {
         }
     }
 
-    /// The failure of the output before a rendering or behind one that ended well: the error that the rendering would have
-    /// been refused with, but for its place.
+    /// Returns the failure of an output before a rendering, or after one that succeeded. It is the error that the rendering
+    /// would have failed with, but without a position.
     pub fn of_output(cause: io::Error) -> Failure<'a>
         ensures memory { error_kind cause ≡ OutOfMemory → result ≡ Failure.OutOfMemory }
-        ensures other { error_kind cause ≢ OutOfMemory → (e : RenderError) × (result ≡ Failure.Refused e)
+        ensures other { error_kind cause ≢ OutOfMemory → (e : RenderError) × (result ≡ Failure.NotRendered e)
             × (refusal_of e ≡ plain_refusal (io_error (error_kind cause))) }
     {
         match cause.kind() {
             ErrorKind::OutOfMemory => Failure::OutOfMemory,
-            _ => Failure::Refused(RenderError::from(cause)),
+            _ => Failure::NotRendered(RenderError::from(cause)),
         }
     }
 
-    /// The status that a run ends with: 2 for wrong words, a template or data file that can't be read, and data that
-    /// isn't JSON, and else 1.
+    /// Returns the exit status of the run. It is 2 for wrong arguments, for a template file or data file that can't be read,
+    /// and for data that aren't JSON. It is 1 for any other failure.
     pub fn status(&self) -> u8
         ensures bound { result ≤ 2 }
         ensures failed { 0 < result }
@@ -57,7 +57,7 @@ impl<'a> Failure<'a> {
         ensures unread { (path : _) → self.now ≡ Failure.CannotRead path → result ≡ 2 }
         ensures data { (path : _) → self.now ≡ Failure.NotJson path → result ≡ 2 }
         ensures template { (cause : _) → self.now ≡ Failure.NotRegistered cause → result ≡ 1 }
-        ensures refused { (cause : _) → self.now ≡ Failure.Refused cause → result ≡ 1 }
+        ensures not_rendered { (cause : _) → self.now ≡ Failure.NotRendered cause → result ≡ 1 }
         ensures memory { self.now ≡ Failure.OutOfMemory → result ≡ 1 }
     {
         match self {
@@ -65,7 +65,7 @@ impl<'a> Failure<'a> {
             Failure::CannotRead(_) => 2,
             Failure::NotJson(_) => 2,
             Failure::NotRegistered(_) => 1,
-            Failure::Refused(_) => 1,
+            Failure::NotRendered(_) => 1,
             Failure::OutOfMemory => 1,
         }
     }
@@ -89,9 +89,9 @@ impl From<TemplateError> for Failure<'_> {
 
 impl From<RenderError> for Failure<'_> {
     fn from(cause: RenderError) -> Self
-        ensures { result ≡ Failure.Refused cause }
+        ensures { result ≡ Failure.NotRendered cause }
     {
-        Failure::Refused(cause)
+        Failure::NotRendered(cause)
     }
 }
 
@@ -104,7 +104,7 @@ impl fmt::Display for Failure<'_> {
             Failure::CannotRead(path) => write!(f, "hbs_origins: cannot read {path}"),
             Failure::NotJson(path) => write!(f, "hbs_origins: not JSON: {path}"),
             Failure::NotRegistered(cause) => write!(f, "{cause}"),
-            Failure::Refused(cause) => write!(f, "{cause}"),
+            Failure::NotRendered(cause) => write!(f, "{cause}"),
             Failure::OutOfMemory => f.write_str("Out of memory"),
         }
     }

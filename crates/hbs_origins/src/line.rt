@@ -2,19 +2,22 @@
 
 ghost use Rattle.std.specs.Prelude.{◌≡◌, [], ◌∷◌, ◌++◌, decimal, map, option_map, OnErr, OnOk};
 ghost use Rattle.handlebars_base.specs.Outputs.{IsPrefix};
-ghost use Rattle.handlebars_expand.specs.PiecesView.{kind_seen, path_seen, spot_seen, template_seen, told_seen};
-ghost use Rattle.handlebars_scope.specs.WayView.{lent_names};
-ghost use Rattle.handlebars_template.specs.TreeView.{place_of};
-ghost use Rattle.hbs_origins.specs.Line.{line_of, line_tokens, listed, path_tokens, place_tokens, spot_tokens, template_token, text_tokens, told_tokens};
+ghost use Rattle.handlebars_expand.specs.PiecesView.{kind_seen, path_seen, location_seen, template_seen, emitted_seen};
+ghost use Rattle.handlebars_scope.specs.ResolutionView.{borrowed_names};
+ghost use Rattle.handlebars_template.specs.TreeView.{position_of};
+ghost use Rattle.hbs_origins.specs.Line.{printed_text, line_tokens, array_tokens, path_tokens, position_tokens, location_tokens, template_token, text_tokens, emitted_tokens};
 ghost use Rattle.json.specs.Token.{number, string};
 
-use handlebars::{FullPath, Origin, PieceKind, Spot, Standing, TemplateMapping};
+use handlebars::{FullPath, Location, Origin, PieceKind, TemplateMapping, TemplateReference};
 use json::Writer;
 use std::alloc::{AllocError, Global};
 use std::mem;
 
-/// Adds the line of a piece to what is gathered, with this word for the template that is rendered. Where memory runs out,
-/// nothing of the line is added.
+/// Appends the line of a piece to the buffer. `first` is printed as the template of pieces of the rendered template.
+///
+/// # Errors
+///
+/// Fails when memory runs out. The buffer is then unchanged.
 pub fn add_line(
     gathered: &mut Vec<u8>,
     first: &str,
@@ -22,7 +25,7 @@ pub fn add_line(
     origin: &Origin<'_>,
 ) -> Result<(), AllocError>
     ensures ok { OnOk result
-        (gathered.new.items ≡ gathered.old.items ++ line_of first.now (told_seen text.now origin.now)) }
+        (gathered.new.items ≡ gathered.old.items ++ printed_text first.now (emitted_seen text.now origin.now)) }
     ensures err { OnErr result (gathered.new.items ≡ gathered.old.items) }
 {
     let len = gathered.len();
@@ -35,7 +38,7 @@ pub fn add_line(
     }
 }
 
-// Where memory runs out, some of the line may be added.
+// When memory runs out, a part of the line may have been appended.
 fn add_parts(
     gathered: &mut Vec<u8>,
     first: &str,
@@ -43,7 +46,7 @@ fn add_parts(
     origin: &Origin<'_>,
 ) -> Result<(), AllocError>
     ensures ok { OnOk result
-        (gathered.new.items ≡ gathered.old.items ++ line_of first.now (told_seen text.now origin.now)) }
+        (gathered.new.items ≡ gathered.old.items ++ printed_text first.now (emitted_seen text.now origin.now)) }
     ensures err { OnErr result (IsPrefix gathered.old.items gathered.new.items) }
 {
     let alloc = *gathered.allocator();
@@ -64,15 +67,15 @@ fn write_object(
     origin: &Origin<'_>,
 ) -> Result<(), AllocError>
     ensures ok { OnOk result
-        (writer.new.tokens ≡ writer.old.tokens ++ line_tokens first.now (told_seen text.now origin.now)) }
+        (writer.new.tokens ≡ writer.old.tokens ++ line_tokens first.now (emitted_seen text.now origin.now)) }
     ensures before { writer.new.before ≡ writer.old.before }
 {
     writer.begin_object()?;
-    write_told(alloc, writer, first, text, origin)?;
+    write_emitted(alloc, writer, first, text, origin)?;
     writer.end_object()
 }
 
-fn write_told(
+fn write_emitted(
     alloc: Global,
     writer: &mut Writer,
     first: &str,
@@ -80,11 +83,11 @@ fn write_told(
     origin: &Origin<'_>,
 ) -> Result<(), AllocError>
     ensures ok { OnOk result
-        (writer.new.tokens ≡ writer.old.tokens ++ told_tokens first.now (told_seen text.now origin.now)) }
+        (writer.new.tokens ≡ writer.old.tokens ++ emitted_tokens first.now (emitted_seen text.now origin.now)) }
     ensures before { writer.new.before ≡ writer.old.before }
 {
     write_text(writer, text, origin.kind)?;
-    write_spot(writer, first, &origin.spot)?;
+    write_location(writer, first, &origin.location)?;
     writer.key("path")?;
     write_path(alloc, writer, origin.path)
 }
@@ -100,47 +103,51 @@ fn write_text(writer: &mut Writer, text: &str, kind: PieceKind) -> Result<(), Al
     writer.string(kind.name())
 }
 
-fn write_spot(writer: &mut Writer, first: &str, spot: &Spot<'_>) -> Result<(), AllocError>
+fn write_location(
+    writer: &mut Writer,
+    first: &str,
+    location: &Location<'_>,
+) -> Result<(), AllocError>
     ensures ok { OnOk result
-        (writer.new.tokens ≡ writer.old.tokens ++ spot_tokens first.now (spot_seen spot.now)) }
+        (writer.new.tokens ≡ writer.old.tokens ++ location_tokens first.now (location_seen location.now)) }
     ensures before { writer.new.before ≡ writer.old.before }
 {
     writer.key("template")?;
-    write_template(writer, first, spot.template)?;
-    write_place(writer, spot.place)?;
+    write_template(writer, first, location.template)?;
+    write_position(writer, location.position)?;
     writer.key("turns")?;
     writer.begin_array()?;
-    write_turns(writer, spot.turns)?;
+    write_iterations(writer, location.iterations)?;
     writer.end_array()
 }
 
 fn write_template(
     writer: &mut Writer,
     first: &str,
-    template: Standing<'_>,
+    template: TemplateReference<'_>,
 ) -> Result<(), AllocError>
     ensures ok { OnOk result (writer.new.tokens
         ≡ writer.old.tokens ++ template_token first.now (template_seen template.entry) ∷ []) }
     ensures before { writer.new.before ≡ writer.old.before }
 {
     match template {
-        Standing::First => writer.string(first),
-        Standing::Included(Some(name)) => writer.string(name),
-        Standing::Included(None) => writer.null(),
+        TemplateReference::First => writer.string(first),
+        TemplateReference::Included(Some(name)) => writer.string(name),
+        TemplateReference::Included(None) => writer.null(),
     }
 }
 
-fn write_place(writer: &mut Writer, place: Option<&TemplateMapping>) -> Result<(), AllocError>
+fn write_position(writer: &mut Writer, position: Option<&TemplateMapping>) -> Result<(), AllocError>
     ensures ok { OnOk result (writer.new.tokens
-        ≡ writer.old.tokens ++ place_tokens (option_map (λ m. place_of m.now) place.entry)) }
+        ≡ writer.old.tokens ++ position_tokens (option_map (λ m. position_of m.now) position.entry)) }
     ensures before { writer.new.before ≡ writer.old.before }
 {
-    match place {
-        Some(place) => {
+    match position {
+        Some(position) => {
             writer.key("line")?;
-            writer.u64(place.0 as u64)?;
+            writer.u64(position.0 as u64)?;
             writer.key("column")?;
-            writer.u64(place.1 as u64)
+            writer.u64(position.1 as u64)
         }
         None => {
             writer.key("line")?;
@@ -151,13 +158,13 @@ fn write_place(writer: &mut Writer, place: Option<&TemplateMapping>) -> Result<(
     }
 }
 
-fn write_turns(writer: &mut Writer, turns: &[usize]) -> Result<(), AllocError>
+fn write_iterations(writer: &mut Writer, iterations: &[usize]) -> Result<(), AllocError>
     ensures ok { OnOk result
-        (writer.new.tokens ≡ writer.old.tokens ++ map (λ turn. number (decimal turn)) turns.now) }
+        (writer.new.tokens ≡ writer.old.tokens ++ map (λ iteration. number (decimal iteration)) iterations.now) }
     ensures before { writer.new.before ≡ writer.old.before }
 {
-    for turn in turns {
-        writer.u64(*turn as u64)?;
+    for iteration in iterations {
+        writer.u64(*iteration as u64)?;
     }
     Ok(())
 }
@@ -182,7 +189,7 @@ fn write_path(
 
 fn write_listed(writer: &mut Writer, names: &[&str]) -> Result<(), AllocError>
     ensures ok { OnOk result
-        (writer.new.tokens ≡ writer.old.tokens ++ listed (map string (lent_names names.now))) }
+        (writer.new.tokens ≡ writer.old.tokens ++ array_tokens (map string (borrowed_names names.now))) }
     ensures before { writer.new.before ≡ writer.old.before }
 {
     writer.begin_array()?;
@@ -192,7 +199,7 @@ fn write_listed(writer: &mut Writer, names: &[&str]) -> Result<(), AllocError>
 
 fn write_names(writer: &mut Writer, names: &[&str]) -> Result<(), AllocError>
     ensures ok { OnOk result
-        (writer.new.tokens ≡ writer.old.tokens ++ map string (lent_names names.now)) }
+        (writer.new.tokens ≡ writer.old.tokens ++ map string (borrowed_names names.now)) }
     ensures before { writer.new.before ≡ writer.old.before }
 {
     for name in names {

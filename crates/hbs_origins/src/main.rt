@@ -1,7 +1,8 @@
-//! `hbs_origins [--strict] [--marks | --html] TEMPLATE DATA [FOLDER]`: prints the pieces of what a template gives over JSON
-//! data, with the templates of a folder, each with where it comes from.
+//! `hbs_origins [--strict] [--marks | --html] TEMPLATE DATA [FOLDER]`: renders a template over JSON data with the templates of
+//! a folder, and prints the pieces of the output, each with its origin.
 #![tactic(auto)]
 
+mod arguments;
 mod failure;
 mod line;
 mod marks;
@@ -10,19 +11,18 @@ mod page;
 mod printer;
 mod request;
 mod run;
-mod words;
 
+use arguments::command_line;
 use handlebars::FileReader;
 use run::run;
 use std::process::ExitCode;
-use words::command_line;
 
 fn main(rt: HostRuntime) -> ExitCode {
-    let words = command_line(&rt);
+    let arguments = command_line(&rt);
     let mut files = FileReader::new(&rt, rt.alloc());
     let status = run(
         rt.alloc(),
-        words,
+        arguments,
         &mut files,
         &mut rt.stdout(),
         &mut rt.stderr(),

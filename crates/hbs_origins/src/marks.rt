@@ -1,14 +1,16 @@
-//! Which pieces bring marks of html in.
+//! Which pieces bring marks of html into the output.
 
 ghost use Rattle.std.specs.List.{list_any};
 ghost use Rattle.std.specs.Prelude.{◌≡◌};
+ghost use Rattle.handlebars_base.specs.EscapeLaws.{is_mark};
 ghost use Rattle.handlebars_expand.specs.PiecesView.{kind_seen};
-ghost use Rattle.hbs_origins.specs.Marks.{brings_mark, is_mark, may_bring};
+ghost use Rattle.hbs_origins.specs.Marks.{brings_mark, may_bring};
 
 use handlebars::PieceKind;
 
-/// Whether data, or a helper of the program's own, brings a mark of html in by this piece. With the default escape an
-/// escaped value has none, so that what is left is raw values and texts of such helpers.
+/// Returns whether data or a user-defined helper brings a mark of html into the output by this piece.
+///
+/// With the default escape function an escaped value has no marks, so only raw values and texts of such helpers are left.
 pub fn brings_mark(kind: PieceKind, text: &str) -> bool
     ensures { result ≡ brings_mark (kind_seen kind) text.now }
 {
@@ -23,8 +25,8 @@ fn may_bring(kind: PieceKind) -> bool
         PieceKind::Indentation => false,
         PieceKind::EscapedValue => true,
         PieceKind::RawValue => true,
-        PieceKind::HelperWord => false,
-        PieceKind::OwnText => true,
+        PieceKind::HelperBoolean => false,
+        PieceKind::UserText => true,
     }
 }
 

@@ -1,4 +1,4 @@
-//! What a run prints: the pieces that a rendering tells of.
+//! The output of a run: the pieces that a rendering emits.
 
 use crate::failure::Failure;
 use crate::printer::Printer;
@@ -9,8 +9,8 @@ use std::alloc::Global;
 use std::io;
 use std::io::Write;
 
-/// Prints the pieces of what a template gives over data: the template is read first, then the data, then the folder. What is
-/// printed before a fault stays.
+/// Renders a template over data, and prints the pieces of the output. The template is read first, then the data, then the
+/// folder. Output written before an error is not taken back.
 pub fn print_origins<'a, R: TemplateReader, O: Write>(
     alloc: Global,
     task: &Request<'a>,
@@ -36,7 +36,7 @@ fn print_over<'a, R: TemplateReader, O: Write>(
     print_with(alloc, task, &mut registry, source, &context, files, out)
 }
 
-// With the templates of the folder.
+// Registers the templates of the folder, and renders.
 fn print_with<'a, R: TemplateReader, O: Write>(
     alloc: Global,
     task: &Request<'a>,
@@ -53,7 +53,7 @@ fn print_with<'a, R: TemplateReader, O: Write>(
     print_pieces(registry, source, context, &mut printer)
 }
 
-// A page begins before the rendering and ends behind it, also behind one that is refused.
+// A page begins before the rendering and ends after it, also if the rendering fails.
 fn print_pieces<'a, O: Write>(
     registry: &Registry,
     source: &str,
@@ -64,7 +64,7 @@ fn print_pieces<'a, O: Write>(
     match registry.render_template_pieces(source, context, printer, &Discard, &mut NoFiles) {
         Ok(()) => written(printer.end(None)),
         Err(cause) => {
-            // Where the end can't be printed, the refusal is told alone: it came first.
+            // If the end can't be printed, only the error of the rendering is reported, since it came first.
             let _ = printer.end(Some(&cause));
             Err(cause.into())
         }
@@ -85,7 +85,7 @@ fn read<'a, R: TemplateReader>(path: &'a str, files: &mut R) -> Result<String, F
     }
 }
 
-// The value that the text of a file is.
+// Reads a file that holds a JSON value.
 fn read_json<'a, R: TemplateReader>(
     alloc: Global,
     path: &'a str,

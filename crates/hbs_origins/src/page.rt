@@ -1,6 +1,6 @@
 //! The page of html that pieces are printed as.
 
-use handlebars::{FullPath, Origin, RenderError, Standing, WriteOutput};
+use handlebars::{FullPath, Origin, RenderError, TemplateReference, WriteOutput};
 use handlebars_base::support::write_escaped;
 use std::io;
 use std::io::Write;
@@ -11,7 +11,7 @@ const HEAD: &str = r#"<!DOCTYPE html>
 <meta charset="utf-8">
 <title>Origins of "#;
 
-// Each kind has a colour and a line of its own, and a background, so that blanks are seen.
+// Each kind has its own colour and underline, and a background that makes blanks visible.
 const LEGEND: &str = r#"</title>
 <style>
 body { margin: 1.5em; background: #fff; color: #222; font-family: sans-serif; }
@@ -40,26 +40,26 @@ pre span:hover { outline: 2px solid; }
 </ul>
 <pre>"#;
 
-/// Adds what stands before all pieces, with this word for the template that is rendered.
+/// Appends the page up to the pieces. `first` is printed as the name of the rendered template.
 pub fn add_begin(gathered: &mut Vec<u8>, first: &str) -> io::Result<()> {
     add_plain(gathered, HEAD)?;
     add_escaped(gathered, first)?;
     add_plain(gathered, LEGEND)
 }
 
-/// Adds what stands behind all pieces, with why there are no more, where they were refused. Where memory runs out for that, the
-/// page ends without it.
+/// Appends the page after the pieces, with the error that ended the rendering, if one did. If memory runs out for the error,
+/// the page ends without it.
 pub fn add_end(gathered: &mut Vec<u8>, cause: Option<&RenderError>) -> io::Result<()> {
     add_plain(gathered, "</pre>\n")?;
     let len = gathered.len();
-    let told = match cause {
+    let reported = match cause {
         Some(cause) => add_refusal(gathered, cause),
         None => Ok(()),
     };
-    if told.is_err() {
+    if reported.is_err() {
         gathered.truncate(len);
     }
-    add_plain(gathered, "</body>\n</html>\n").and(told)
+    add_plain(gathered, "</body>\n</html>\n").and(reported)
 }
 
 fn add_refusal(gathered: &mut Vec<u8>, cause: &RenderError) -> io::Result<()> {
@@ -73,7 +73,7 @@ fn add_box(gathered: &mut Vec<u8>, text: &str) -> io::Result<()> {
     add_plain(gathered, "</div>\n")
 }
 
-/// Adds a piece, with its origin in words for whoever points at it. Where memory runs out, nothing of it is added.
+/// Appends a piece, with a description of its origin as a tooltip. When memory runs out, nothing of it is appended.
 pub fn add_piece(
     gathered: &mut Vec<u8>,
     first: &str,
@@ -106,7 +106,7 @@ fn add_span(
     add_plain(gathered, "</span>")
 }
 
-// A newline alone would take no room on the page.
+// A newline alone would take no space on the page.
 fn is_blank(text: &str) -> bool {
     text.bytes().all(|byte| byte.is_ascii_whitespace())
 }
@@ -118,12 +118,12 @@ fn add_origin(gathered: &mut Vec<u8>, first: &str, origin: &Origin<'_>) -> io::R
         add_path(gathered, path)?;
     }
     add_plain(gathered, ": ")?;
-    add_template(gathered, first, origin.spot.template)?;
-    if let Some(place) = origin.spot.place {
-        add_number(gathered, ", line ", place.0)?;
-        add_number(gathered, ", column ", place.1)?;
+    add_template(gathered, first, origin.location.template)?;
+    if let Some(position) = origin.location.position {
+        add_number(gathered, ", line ", position.0)?;
+        add_number(gathered, ", column ", position.1)?;
     }
-    add_turns(gathered, origin.spot.turns)
+    add_iterations(gathered, origin.location.iterations)
 }
 
 fn add_path(gathered: &mut Vec<u8>, path: FullPath<'_>) -> io::Result<()> {
@@ -144,30 +144,34 @@ fn add_names(gathered: &mut Vec<u8>, names: &[&str]) -> io::Result<()> {
     Ok(())
 }
 
-fn add_template(gathered: &mut Vec<u8>, first: &str, template: Standing<'_>) -> io::Result<()> {
+fn add_template(
+    gathered: &mut Vec<u8>,
+    first: &str,
+    template: TemplateReference<'_>,
+) -> io::Result<()> {
     match template {
-        Standing::First => add_escaped(gathered, first),
-        Standing::Included(Some(name)) => add_escaped(gathered, name),
-        Standing::Included(None) => add_plain(gathered, "an inline partial"),
+        TemplateReference::First => add_escaped(gathered, first),
+        TemplateReference::Included(Some(name)) => add_escaped(gathered, name),
+        TemplateReference::Included(None) => add_plain(gathered, "an inline partial"),
     }
 }
 
-fn add_turns(gathered: &mut Vec<u8>, turns: &[usize]) -> io::Result<()> {
+fn add_iterations(gathered: &mut Vec<u8>, iterations: &[usize]) -> io::Result<()> {
     let mut before = ", turn ";
-    for turn in turns {
-        add_number(gathered, before, *turn)?;
+    for iteration in iterations {
+        add_number(gathered, before, *iteration)?;
         before = ", ";
     }
     Ok(())
 }
 
-// A carriage return goes by its number, or a browser would make it a newline. A NUL, which no page can hold, is shown as the
-// character for what isn't known.
+// A carriage return is written by its number, since a browser would read it as a newline. A NUL, which no page can hold, is
+// replaced by the replacement character.
 fn add_escaped(gathered: &mut Vec<u8>, text: &str) -> io::Result<()> {
     for part in text.split_inclusive(is_lost) {
         match part.strip_suffix(is_lost) {
-            Some(front) => {
-                write_escaped(&mut WriteOutput::new(gathered), front)?;
+            Some(prefix) => {
+                write_escaped(&mut WriteOutput::new(gathered), prefix)?;
                 let number = if part.ends_with('\r') {
                     "&#13;"
                 } else {

@@ -1,38 +1,38 @@
-//! The output that a rendering tells of its pieces.
+//! The output that a rendering emits its pieces to.
 
 ghost use Rattle.std.specs.Prelude.{◌≡◌, ◌≢◌, [], ◌++◌, OnOk};
-ghost use Rattle.handlebars_expand.specs.PiecesView.{told_seen};
-ghost use Rattle.hbs_origins.specs.Printed.{PrintsBehind, printed_as};
+ghost use Rattle.handlebars_expand.specs.PiecesView.{emitted_seen};
+ghost use Rattle.hbs_origins.specs.Printed.{PrintsAfter, printed_as};
 
 use crate::line::add_line;
 use crate::marks::brings_mark;
 use crate::page::{add_begin, add_end, add_piece};
 use crate::request::Form;
-use handlebars::{Heard, Origin, PieceOutput, RenderError};
+use handlebars::{Origin, PieceOutput, RenderError, Trace};
 use std::alloc::Global;
 use std::io;
 use std::io::Write;
 
-// How many bytes are gathered before they are written.
+// How many bytes are buffered before they are written.
 const FULL: usize = 8192;
 
-/// Prints pieces in the form that is asked for. Whole lines, or whole parts of a page, are gathered and then written at once.
+/// Prints pieces in the form that is asked for. Whole lines, or whole parts of a page, are buffered and then written at once.
 #[derive(Drop)]
 pub struct Printer<'p, W> {
     form: Form,
-    // The word for the template that is rendered.
+    // What is printed as the name of the rendered template.
     template: &'p str,
     gathered: Vec<u8>,
     out: &'p mut W,
-    heard: Heard,
+    trace: Trace,
 }
 
 impl<'p, W: Write> Printer<'p, W> {
-    /// Has printed nothing yet; this takes no memory.
+    /// Creates a printer that has printed nothing yet. Allocates no memory.
     pub fn new(alloc: Global, form: Form, template: &'p str, out: &'p mut W) -> Printer<'p, W>
-        ensures told { result.heard.told ≡ [] }
+        ensures emitted { result.trace.emitted ≡ [] }
         ensures form { result.form ≡ form }
-        ensures word { result.template.now ≡ template.now }
+        ensures argument { result.template.now ≡ template.now }
         ensures gathered { result.gathered.items ≡ [] }
     {
         Printer {
@@ -40,11 +40,11 @@ impl<'p, W: Write> Printer<'p, W> {
             template,
             gathered: Vec::new(alloc),
             out,
-            heard: Heard::nothing(),
+            trace: Trace::nothing(),
         }
     }
 
-    /// What stands before all pieces of a page.
+    /// Buffers the page up to the pieces. Other forms have no beginning.
     pub fn begin(&mut self) -> io::Result<()>
         ensures lines { self.old.form ≢ Form.Page → self.new ≡ self.old }
     {
@@ -55,10 +55,11 @@ impl<'p, W: Write> Printer<'p, W> {
         }
     }
 
-    /// What stands behind all pieces of a page, with why there are no more, where they were refused. Then all is written.
+    /// Buffers the page after the pieces, with the error that ended the rendering, if one did. Other forms have no end. Then
+    /// writes and flushes the buffer.
     pub fn end(&mut self, cause: Option<&RenderError>) -> io::Result<()>
         ensures lines { OnOk result (self.old.form ≢ Form.Page
-            → PrintsBehind (W.contents self.old.out.now) self.old.gathered.items []
+            → PrintsAfter (W.contents self.old.out.now) self.old.gathered.items []
             (W.contents self.new.out.now) self.new.gathered.items) }
     {
         let added = match self.form {
@@ -71,17 +72,17 @@ impl<'p, W: Write> Printer<'p, W> {
         added
     }
 
-    // What was gathered goes first: then there is room for the end, also where memory ran out.
+    // The buffer is written first. The end then fits into it, even if memory ran out.
     fn end_page(&mut self, cause: Option<&RenderError>) -> io::Result<()> {
         self.pour()?;
         add_end(&mut self.gathered, cause)
     }
 
     fn add(&mut self, text: &str, origin: &Origin<'_>) -> io::Result<()>
-        ensures told { self.new.heard ≡ self.old.heard }
+        ensures emitted { self.new.trace ≡ self.old.trace }
         ensures prints { OnOk result (self.old.form ≢ Form.Page
-            → PrintsBehind (W.contents self.old.out.now) self.old.gathered.items
-            (printed_as self.old.form self.old.template.now (told_seen text.now origin.now))
+            → PrintsAfter (W.contents self.old.out.now) self.old.gathered.items
+            (printed_as self.old.form self.old.template.now (emitted_seen text.now origin.now))
             (W.contents self.new.out.now) self.new.gathered.items) }
     {
         gather(&mut self.gathered, self.form, self.template, text, origin)?;
@@ -91,10 +92,10 @@ impl<'p, W: Write> Printer<'p, W> {
         Ok(self.pour()?)
     }
 
-    // What can't be written is let go, so that no part of it is written twice.
+    // Bytes that can't be written are dropped, so that no part of them is written twice.
     fn pour(&mut self) -> io::Result<()>
-        ensures told { self.new.heard ≡ self.old.heard }
-        ensures prints { OnOk result (PrintsBehind (W.contents self.old.out.now) self.old.gathered.items []
+        ensures emitted { self.new.trace ≡ self.old.trace }
+        ensures prints { OnOk result (PrintsAfter (W.contents self.old.out.now) self.old.gathered.items []
             (W.contents self.new.out.now) self.new.gathered.items) }
         ensures none { self.new.gathered.items ≡ [] }
     {
@@ -104,7 +105,7 @@ impl<'p, W: Write> Printer<'p, W> {
     }
 }
 
-// Adds a piece to what is gathered.
+// Appends a piece to the buffer.
 fn gather(
     gathered: &mut Vec<u8>,
     form: Form,
@@ -113,7 +114,7 @@ fn gather(
     origin: &Origin<'_>,
 ) -> io::Result<()>
     ensures { OnOk result (form ≢ Form.Page
-        → gathered.new.items ≡ gathered.old.items ++ printed_as form first.now (told_seen text.now origin.now)) }
+        → gathered.new.items ≡ gathered.old.items ++ printed_as form first.now (emitted_seen text.now origin.now)) }
 {
     match form {
         Form::Lines => Ok(add_line(gathered, first, text, origin)?),
@@ -128,11 +129,11 @@ fn gather(
 }
 
 impl<W: Write> PieceOutput for Printer<'_, W> {
-    ghost told = { λ o. o.heard.told };
+    ghost emitted = { λ o. o.trace.emitted };
 
     fn piece(&mut self, text: &str, origin: &Origin<'_>) -> Result<(), io::Error> {
         self.add(text, origin)?;
-        self.heard = self.heard.and(text.as_bytes(), origin);
+        self.trace = self.trace.and(text.as_bytes(), origin);
         Ok(())
     }
 }

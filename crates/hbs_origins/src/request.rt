@@ -1,20 +1,20 @@
-//! What the words of the command line ask for.
+//! What the arguments of the command line ask for.
 
 ghost use Rattle.std.specs.Prelude.{◌≡◌, ◌≢◌, IfSome, None, length, option_map};
-ghost use Rattle.hbs_origins.specs.Words.{behind, behind_strict, begins_strict, file_words, form_of, form_words};
+ghost use Rattle.hbs_origins.specs.Arguments.{after_option, after_strict, has_strict_option, input_arguments, form_of, form_arguments};
 
-/// In which form pieces are printed.
+/// The form in which pieces are printed.
 #[derive(Clone, Copy, Debug, PartialEq, Eq)]
 pub enum Form {
-    /// A line of JSON for each.
+    /// A line of JSON for each piece.
     Lines,
-    /// The lines of those that bring marks of html in.
+    /// The lines of the pieces that bring in marks of html.
     Marks,
     /// One page of html.
     Page,
 }
 
-/// What is asked for: the paths of a template, of data and perhaps of a folder, in which form, and whether the mode is strict.
+/// What is asked for: the paths of a template, of data and perhaps of a folder, the form, and whether the mode is strict.
 #[derive(Drop)]
 pub struct Request<'a> {
     pub strict: bool,
@@ -25,15 +25,15 @@ pub struct Request<'a> {
 }
 
 impl<'a> Request<'a> {
-    /// What the words ask for, unless they are other than two or three behind the options.
-    pub fn of_words(words: &'a [String]) -> Option<Request<'a>>
-        ensures usage { length (file_words words.now) ≢ 2 → length (file_words words.now) ≢ 3 → result ≡ None }
-        ensures strict { IfSome result (λ task. task.strict ≡ begins_strict words.now) }
-        ensures form { IfSome result (λ task. task.form ≡ form_of words.now) }
+    /// Returns what the arguments ask for. Returns none unless two or three arguments follow the options.
+    pub fn of_arguments(arguments: &'a [String]) -> Option<Request<'a>>
+        ensures usage { length (input_arguments arguments.now) ≢ 2 → length (input_arguments arguments.now) ≢ 3 → result ≡ None }
+        ensures strict { IfSome result (λ task. task.strict ≡ has_strict_option arguments.now) }
+        ensures form { IfSome result (λ task. task.form ≡ form_of arguments.now) }
     {
-        let (strict, words) = split_strict(words);
-        let (form, words) = split_form(words);
-        match words {
+        let (strict, arguments) = split_strict(arguments);
+        let (form, arguments) = split_form(arguments);
+        match arguments {
             [template, data] => Some(Request {
                 strict,
                 form,
@@ -53,35 +53,35 @@ impl<'a> Request<'a> {
     }
 }
 
-// Whether the first word is `--strict`, and the words behind it.
-fn split_strict(words: &[String]) -> (bool, &[String])
-    ensures strict { result.0 ≡ begins_strict words.now }
-    ensures words { result.1.now ≡ behind_strict words.now }
+// Whether the first argument is `--strict`, and the arguments after it.
+fn split_strict(arguments: &[String]) -> (bool, &[String])
+    ensures strict { result.0 ≡ has_strict_option arguments.now }
+    ensures arguments { result.1.now ≡ after_strict arguments.now }
 {
-    match behind(words, "--strict") {
+    match after(arguments, "--strict") {
         Some(rest) => (true, rest),
-        None => (false, words),
+        None => (false, arguments),
     }
 }
 
-// The form that the first word asks for, and the words behind it.
-fn split_form(words: &[String]) -> (Form, &[String])
-    ensures { (result.0, result.1.now) ≡ form_words words.now }
+// The form that the first argument asks for, and the arguments after it.
+fn split_form(arguments: &[String]) -> (Form, &[String])
+    ensures { (result.0, result.1.now) ≡ form_arguments arguments.now }
 {
-    match behind(words, "--marks") {
+    match after(arguments, "--marks") {
         Some(rest) => (Form::Marks, rest),
-        None => match behind(words, "--html") {
+        None => match after(arguments, "--html") {
             Some(rest) => (Form::Page, rest),
-            None => (Form::Lines, words),
+            None => (Form::Lines, arguments),
         },
     }
 }
 
-// The words behind the first one, where that is this option.
-fn behind<'a>(words: &'a [String], option: &str) -> Option<&'a [String]>
-    ensures { option_map (λ rest. rest.now) result ≡ behind option.now words.now }
+// The arguments after the first one, if that is this option.
+fn after<'a>(arguments: &'a [String], option: &str) -> Option<&'a [String]>
+    ensures { option_map (λ rest. rest.now) result ≡ after_option option.now arguments.now }
 {
-    match words.split_first() {
+    match arguments.split_first() {
         Some((first, rest)) => {
             if first.as_str() == option {
                 Some(rest)

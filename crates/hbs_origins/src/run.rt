@@ -1,7 +1,7 @@
 //! A run of the program, over any files and any outputs.
 
 ghost use Rattle.std.specs.Prelude.{◌≡◌, ◌≢◌, ◌≤◌, Err, IfErr, IfOk, length};
-ghost use Rattle.hbs_origins.specs.Words.{file_words};
+ghost use Rattle.hbs_origins.specs.Arguments.{input_arguments};
 
 use crate::failure::Failure;
 use crate::origins::print_origins;
@@ -10,27 +10,30 @@ use handlebars::TemplateReader;
 use std::alloc::Global;
 use std::io::Write;
 
-/// Renders the template that the first word names over the data that the second one names, with the templates of the
-/// folder that a third one names, and prints the pieces of its text with where they come from; answers the status that the
-/// program ends with. In front of them `--strict` asks for strict mode, and `--marks` or `--html` behind that for another form.
-/// `words` is an error where they can't be had. Other than two or three words, behind these options, are refused before any
-/// file is read. A run that fails says why in one line on `err`; what was written to `out` before it fails stays.
+/// Renders a template, prints the pieces of the output with their origins, and returns the exit status.
+///
+/// The first argument names the template, the second one the data, and an optional third one a folder of templates. `--strict`
+/// before them turns on strict mode. `--marks` or `--html`, after it and before them, selects another form. `arguments` is an
+/// error if the arguments can't be read.
+///
+/// If the arguments after these options are not two or three, the status is 2, no file is read and nothing is written to `out`.
+/// A run that fails reports why in one line on `err`. Output written to `out` before an error is not taken back.
 pub fn run<'a, R: TemplateReader, O: Write, E: Write>(
     alloc: Global,
-    words: Result<Vec<String>, Failure<'a>>,
+    arguments: Result<Vec<String>, Failure<'a>>,
     files: &mut R,
     out: &mut O,
     err: &mut E,
 ) -> u8
     ensures status { result ≤ 2 }
-    ensures usage { IfOk words.entry (λ given. length (file_words given.items) ≢ 2
-        → length (file_words given.items) ≢ 3 → (result ≡ 2) × (files.new ≡ files.old) × (out.new ≡ out.old)) }
-    ensures untouched { IfErr words.entry (λ _. (files.new ≡ files.old) × (out.new ≡ out.old)) }
-    ensures unread { IfErr words.entry (λ e. e ≡ Failure.Usage → result ≡ 2) }
-    ensures memory { IfErr words.entry (λ e. e ≡ Failure.OutOfMemory → result ≡ 1) }
+    ensures usage { IfOk arguments.entry (λ given. length (input_arguments given.items) ≢ 2
+        → length (input_arguments given.items) ≢ 3 → (result ≡ 2) × (files.new ≡ files.old) × (out.new ≡ out.old)) }
+    ensures untouched { IfErr arguments.entry (λ _. (files.new ≡ files.old) × (out.new ≡ out.old)) }
+    ensures unread { IfErr arguments.entry (λ e. e ≡ Failure.Usage → result ≡ 2) }
+    ensures memory { IfErr arguments.entry (λ e. e ≡ Failure.OutOfMemory → result ≡ 1) }
 {
-    match words {
-        Ok(words) => match print(alloc, words.as_slice(), files, out) {
+    match arguments {
+        Ok(arguments) => match print(alloc, arguments.as_slice(), files, out) {
             Ok(()) => 0,
             Err(failure) => report(&failure, err),
         },
@@ -38,7 +41,7 @@ pub fn run<'a, R: TemplateReader, O: Write, E: Write>(
     }
 }
 
-// Says a failure, and answers its status. Where it can't be said, the status still tells of it.
+// Reports a failure and returns its status. If it can't be printed, the status still reports it.
 fn report<E: Write>(failure: &Failure<'_>, err: &mut E) -> u8
     ensures bound { result ≤ 2 }
     ensures usage { failure.now ≡ Failure.Usage → result ≡ 2 }
@@ -50,14 +53,14 @@ fn report<E: Write>(failure: &Failure<'_>, err: &mut E) -> u8
 
 fn print<'a, R: TemplateReader, O: Write>(
     alloc: Global,
-    words: &'a [String],
+    arguments: &'a [String],
     files: &mut R,
     out: &mut O,
 ) -> Result<(), Failure<'a>>
-    ensures usage { length (file_words words.now) ≢ 2 → length (file_words words.now) ≢ 3
+    ensures usage { length (input_arguments arguments.now) ≢ 2 → length (input_arguments arguments.now) ≢ 3
         → (result ≡ Err Failure.Usage) × (files.new ≡ files.old) × (out.new ≡ out.old) }
 {
-    match Request::of_words(words) {
+    match Request::of_arguments(arguments) {
         Some(task) => print_origins(alloc, &task, files, out),
         None => Err(Failure::Usage),
     }

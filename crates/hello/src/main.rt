@@ -1,4 +1,4 @@
-//! The shortest program: data in a struct of one's own, a template, and the text.
+//! The shortest program: data in a user-defined struct, a template, and the text.
 #![tactic(auto)]
 
 use handlebars::{Handlebars, NoFiles, RenderError};

@@ -1,4 +1,4 @@
--- What a reader over memory answers.
+-- The answers of a reader over memory.
 use Rattle.std.specs.BTreeMap.{BTreeMap, get_by_text}
 use Rattle.std.specs.Global.{Global}
 use Rattle.std.specs.IoError.{error_kind}
@@ -11,7 +11,7 @@ use Rattle.handlebars_base.specs.Bytes.{Text}
 abbrev pub text_at : BTreeMap (String Global) (String Global) → Text → Option Text
 text_at texts path = option_map string_bytes (get_by_text texts path)
 
--- The answer is the text that there is, or tells that there is none, but for want of memory.
-abbrev pub Gives : Option Text → Result (String Global) Error → Type 0
-Gives there (Ok text) = there ≡ Some (string_bytes text)
-Gives there (Err e) = error_kind e ≢ OutOfMemory → (there ≡ None) × (error_kind e ≡ NotFound)
+-- The reader returns the stored text, or fails with `NotFound` because there is none. It may also run out of memory.
+abbrev pub ReadsStored : Option Text → Result (String Global) Error → Type 0
+ReadsStored there (Ok text) = there ≡ Some (string_bytes text)
+ReadsStored there (Err e) = error_kind e ≢ OutOfMemory → (there ≡ None) × (error_kind e ≡ NotFound)

@@ -1,15 +1,15 @@
-//! `test_api [FILE ..]`: runs the scripts of files, and prints which come to something else than they want. A folder stands
-//! for its `.json` files, and `data` is run where no word is given. `docs/SCRIPTS.md` has the format.
+//! `test_api [FILE ..]`: runs the scripts of files, and prints which answer something else than is expected. A folder names its
+//! `.json` files. Without arguments the folder `data` is run. `docs/SCRIPTS.md` has the format.
 #![tactic(auto)]
 
 mod caller;
 mod memory;
 mod names;
-mod own;
 mod pages;
 mod part;
 mod run;
 mod script;
+mod script_parts;
 mod state;
 mod steps;
 mod strangers;
@@ -22,7 +22,7 @@ fn main(rt: HostRuntime) -> ExitCode {
         Ok(true) => ExitCode::SUCCESS,
         Ok(false) => ExitCode::FAILURE,
         Err(failure) => {
-            // Where this can't be said either, the status still tells of it.
+            // If this can't be printed either, the exit status still reports the failure.
             let _ = eprintln!(rt; "test_api: {failure}");
             ExitCode::FAILURE
         }

@@ -1,4 +1,4 @@
-//! A reader over memory, which gives one answer.
+//! A reader over memory, which always gives the same answer.
 
 use handlebars::{EntryKind, TemplateReader};
 use std::alloc::Global;
@@ -6,7 +6,7 @@ use std::collections::BTreeMap;
 use std::io;
 use std::io::ErrorKind;
 
-/// Texts by path, and no folder. Asked for other paths it answers `NotFound`.
+/// Texts by path. There are no folders. For any other path the answer is `NotFound`.
 #[derive(Drop)]
 pub struct Texts {
     pub alloc: Global,
@@ -17,9 +17,9 @@ impl TemplateReader for Texts {
     ghost use Rattle.std.specs.Prelude.{◌≡◌, IsErrAnd};
     ghost use Rattle.std.specs.IoError.{error_kind};
     ghost use Rattle.std.specs.declared.io.ErrorKind.TheVariants.{NotFound};
-    ghost use Rattle.test_api.specs.Memory.{Gives, text_at};
+    ghost use Rattle.test_api.specs.Memory.{ReadsStored, text_at};
 
-    ghost reads = { λ before path answer after. Gives (text_at before.texts path) answer × (after ≡ before) };
+    ghost reads = { λ before path answer after. ReadsStored (text_at before.texts path) answer × (after ≡ before) };
 
     ghost lists = { λ before path answer after. IsErrAnd answer (λ e. error_kind e ≡ NotFound) × (after ≡ before) };
 

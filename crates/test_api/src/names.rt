@@ -1,4 +1,4 @@
-//! The names that `handlebars` lends its callers: each is there.
+//! The names that `handlebars` re-exports for its callers. Each must exist.
 
 pub use handlebars::{
     BlockContext, BlockParam, BlockParamHolder, BlockParams, BuiltIn, Context, DecoratorTemplate,

@@ -2,21 +2,21 @@
 
 ghost use Rattle.std.specs.Prelude.{◌≡◌, IfOk, OnOk, Some, false, string_bytes, true};
 ghost use Rattle.handlebars_scope.specs.Contexts.{data_of};
-ghost use Rattle.handlebars_meaning.specs.Answer.{FromName, GivesText};
+ghost use Rattle.handlebars_semantics.specs.Answer.{FromName, GivesText};
 ghost use Rattle.handlebars.specs.Calls.{Writes, WritesReading};
 ghost use Rattle.handlebars.specs.Dev.{HasRead, stored_under};
 ghost use Rattle.handlebars.specs.Files.{is_dev};
 ghost use Rattle.handlebars.specs.Over.{setting_under};
 
-use handlebars::{Context, NoFiles, OwnParts, RegistryOf, RenderError, TemplateReader};
+use handlebars::{Context, NoFiles, RegistryOf, RenderError, TemplateReader, UserParts};
 use log::Log;
 use std::fs::File;
 use std::io::{BufWriter, Write};
 use std::rt::Files;
 
-/// Writes a registered template over data to a file, through a buffer. Where it is refused, the file has what stands
-/// before that.
-pub fn write_page<F: Files + AllocGlobal, E: OwnParts, L: Log>(
+/// Writes a registered template over data to a file, through a buffer. If the rendering fails, the file holds the output that
+/// precedes the error.
+pub fn write_page<F: Files + AllocGlobal, E: UserParts, L: Log>(
     rt: &F,
     path: &str,
     registry: &RegistryOf<E>,
@@ -29,9 +29,11 @@ pub fn write_page<F: Files + AllocGlobal, E: OwnParts, L: Log>(
     Ok(page.flush()?)
 }
 
-/// Writes a registered template over data to any writer. Of one that tells what it holds it is known what it holds then:
-/// the text of the definition behind what it held before, or where the call is refused a beginning of it.
-pub fn write_to<E: OwnParts, W: Write, L: Log, R: TemplateReader>(
+/// Writes a registered template over data to any writer.
+///
+/// If the contract of the writer states its contents, they are known after the call: the text of the definition is appended to
+/// them, or a prefix of it if the call fails.
+pub fn write_to<E: UserParts, W: Write, L: Log, R: TemplateReader>(
     registry: &RegistryOf<E>,
     name: &str,
     data: &Context,
@@ -40,15 +42,16 @@ pub fn write_to<E: OwnParts, W: Write, L: Log, R: TemplateReader>(
     files: &mut R,
 ) -> Result<(), RenderError>
     ensures writes { WritesReading R.reads registry.now (Some name.now) files.old files.new
-        (λ read. Writes (setting_under E.registered E.own read registry.now (data_of «data».now))
+        (λ read. Writes (setting_under E.registered E.user read registry.now (data_of «data».now))
         (FromName (stored_under read registry.now) name.now)) (W.contents writer.old) (W.contents writer.new) result }
 {
     registry.render_with_context_to_write(name, data, writer, log, files)
 }
 
-/// The text of a file's template over data, and from now on whatever its file has at each rendering. It is the text of
-/// the definition, with the trees that were read in place of the stored ones.
-pub fn rendered_anew<E: OwnParts, L: Log, R: TemplateReader>(
+/// Registers the template of a file in dev mode, and renders it over data. Each later rendering reads the file again.
+///
+/// The text is the one of the definition, where the trees that were read replace the stored ones.
+pub fn rendered_anew<E: UserParts, L: Log, R: TemplateReader>(
     registry: &mut RegistryOf<E>,
     name: &str,
     path: &str,
@@ -57,7 +60,7 @@ pub fn rendered_anew<E: OwnParts, L: Log, R: TemplateReader>(
     files: &mut R,
 ) -> Result<String, RenderError>
     ensures text { IfOk result (λ text. (between : R) × HasRead R.reads registry.new (Some name.now) between files.new
-        (λ read. GivesText (setting_under E.registered E.own read registry.new (data_of «data».now))
+        (λ read. GivesText (setting_under E.registered E.user read registry.new (data_of «data».now))
         (FromName (stored_under read registry.new) name.now) (string_bytes text))) }
     ensures dev { OnOk result (is_dev registry.new ≡ true) }
 {
@@ -66,9 +69,9 @@ pub fn rendered_anew<E: OwnParts, L: Log, R: TemplateReader>(
     registry.render_with_context(name, data, log, files)
 }
 
-/// The text of a registered template over data, as it was registered: whatever is remembered is forgotten, and no file
-/// is asked for.
-pub fn rendered_as_registered<E: OwnParts, L: Log, R: TemplateReader>(
+/// Renders a registered template over data, as it was registered. Dev mode is turned off, so the registry forgets the paths of
+/// files and reads none.
+pub fn rendered_as_registered<E: UserParts, L: Log, R: TemplateReader>(
     registry: &mut RegistryOf<E>,
     name: &str,
     data: &Context,
@@ -76,7 +79,7 @@ pub fn rendered_as_registered<E: OwnParts, L: Log, R: TemplateReader>(
     files: &mut R,
 ) -> Result<String, RenderError>
     ensures text { IfOk result (λ text. HasRead R.reads registry.new (Some name.now) files.old files.new
-        (λ read. GivesText (setting_under E.registered E.own read registry.new (data_of «data».now))
+        (λ read. GivesText (setting_under E.registered E.user read registry.new (data_of «data».now))
         (FromName (stored_under read registry.new) name.now) (string_bytes text))) }
     ensures dev { is_dev registry.new ≡ false }
     ensures unread { files.new ≡ files.old }

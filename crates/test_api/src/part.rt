@@ -1,12 +1,12 @@
-//! Helpers, decorators and escape functions of a script's own.
+//! User-defined helpers, decorators and escape functions that a script describes.
 
 use handlebars::{HelperValue, JsonValue};
-use handlebars_parts::escape::Doubled;
-use handlebars_parts::helpers::Distance;
-use handlebars_parts::refusing::Refusing;
-use handlebars_parts::scripted::{ScriptedAction, ScriptedDecorator, ScriptedHelper, ScriptedStep};
 use std::alloc::{AllocError, Global};
 use std::io::ErrorKind;
+use test_parts::escape::Doubled;
+use test_parts::failing::Failing;
+use test_parts::helpers::Distance;
+use test_parts::scripted::{ScriptedAction, ScriptedDecorator, ScriptedHelper, ScriptedStep};
 use test_steps::answer::Stop;
 use test_steps::fields::{items, number, owned, text};
 use test_steps::held::{had, if_made, push, put};
@@ -16,18 +16,18 @@ use test_steps::made::data::context_of;
 pub enum Part {
     Helper(ScriptedHelper),
     Distance(Distance),
-    RefusingHelper(Refusing),
+    FailingHelper(Failing),
     Decorator(ScriptedDecorator),
-    RefusingDecorator(Refusing),
+    FailingDecorator(Failing),
     Escape(Doubled),
-    RefusingEscape(Refusing),
+    FailingEscape(Failing),
 }
 
-const REFUSING: Refusing = Refusing {
+const FAILING: Failing = Failing {
     kind: ErrorKind::PermissionDenied,
 };
 
-/// The part that a step registers, if it registers one of its own.
+/// Returns the user-defined part that a step registers, if it registers one.
 pub fn part_of(alloc: Global, step: &JsonValue) -> Result<Option<Part>, Stop> {
     match text(step, "do") {
         "parts.helper" => helper_part(alloc, step).map(Some),
@@ -41,21 +41,21 @@ fn helper_part(alloc: Global, step: &JsonValue) -> Result<Part, Stop> {
     match text(step, "part") {
         "" => helper_of(alloc, step).map(Part::Helper),
         "distance" => Ok(Part::Distance(Distance { alloc })),
-        "refusing" => Ok(Part::RefusingHelper(REFUSING)),
+        "refusing" => Ok(Part::FailingHelper(FAILING)),
         _ => Err(Stop::Field),
     }
 }
 
 fn decorator_part(alloc: Global, step: &JsonValue) -> Result<Option<Part>, Stop> {
     match text(step, "part") {
-        "" => decorator_of(alloc, step).map(own_decorator),
+        "" => decorator_of(alloc, step).map(user_decorator),
         "inline" => Ok(None),
-        "refusing" => Ok(Some(Part::RefusingDecorator(REFUSING))),
+        "refusing" => Ok(Some(Part::FailingDecorator(FAILING))),
         _ => Err(Stop::Field),
     }
 }
 
-fn own_decorator(decorator: ScriptedDecorator) -> Option<Part> {
+fn user_decorator(decorator: ScriptedDecorator) -> Option<Part> {
     Some(Part::Decorator(decorator))
 }
 
@@ -64,12 +64,12 @@ fn escape_part(alloc: Global, step: &JsonValue) -> Result<Option<Part>, Stop> {
         "html" => Ok(None),
         "plain" => Ok(None),
         "doubled" => Ok(Some(Part::Escape(Doubled { alloc }))),
-        "refusing" => Ok(Some(Part::RefusingEscape(REFUSING))),
+        "refusing" => Ok(Some(Part::FailingEscape(FAILING))),
         _ => Err(Stop::Field),
     }
 }
 
-/// The helper of the field `helper`.
+/// Returns the helper of the field `helper`.
 pub fn helper_at(alloc: Global, step: &JsonValue) -> Result<ScriptedHelper, Stop> {
     match step.get("helper") {
         Some(helper) => helper_of(alloc, helper),
@@ -77,7 +77,7 @@ pub fn helper_at(alloc: Global, step: &JsonValue) -> Result<ScriptedHelper, Stop
     }
 }
 
-// The helper that is described.
+// The helper that the value describes.
 fn helper_of(alloc: Global, it: &JsonValue) -> Result<ScriptedHelper, Stop> {
     let mut helper = ScriptedHelper {
         alloc,
@@ -93,7 +93,7 @@ fn fill_helper(alloc: Global, helper: &mut ScriptedHelper, it: &JsonValue) -> Re
     put(&mut helper.offer, offer_of(it))
 }
 
-// The steps of the field `steps`, if there are any.
+// The steps of the field `steps`, if it is present.
 fn steps_of(alloc: Global, it: &JsonValue) -> Result<Option<Vec<ScriptedStep>>, Stop> {
     match it.get("steps").and_then(JsonValue::as_array) {
         Some(all) => all_steps(alloc, all.as_slice()).map(Some),
@@ -129,7 +129,7 @@ fn step_of(alloc: Global, it: &JsonValue) -> Result<ScriptedStep, Stop> {
     }
 }
 
-// The value of the field `value`; where that is missing, what `offer` says, `missing` or nothing.
+// The value of the field `value`. If it is missing, the field `offer` says `missing`, or nothing.
 fn offer_of(it: &JsonValue) -> Result<HelperValue, Stop> {
     if let Some(value) = it.get("value") {
         return had(value.clone().map(HelperValue::Value));

@@ -2,35 +2,35 @@
 
 use crate::script::differs;
 use handlebars::JsonValue;
-use handlebars_rows::failure::Failure;
-use handlebars_rows::files::{file_paths, words};
 use std::fs;
 use std::rt::{Env, Files};
+use test_cases::failure::Failure;
+use test_cases::files::{arguments, file_paths};
 
-/// Runs the files of the words, and answers whether all of their scripts come to what they want.
+/// Runs the files that the arguments name. Returns whether all of their scripts answer what is expected.
 pub fn run<R: Files + Env + Print + Eprint + AllocGlobal + Clone + Drop>(
     rt: &R,
 ) -> Result<bool, Failure> {
     let mut passed = true;
-    for word in words(rt)? {
-        passed = told(rt, word.as_str(), run_word(rt, word.as_str())) && passed;
+    for argument in arguments(rt)? {
+        passed = reported(rt, argument.as_str(), run_argument(rt, argument.as_str())) && passed;
     }
     Ok(passed)
 }
 
-fn run_word<R: Files + Print + Eprint + AllocGlobal + Clone + Drop>(
+fn run_argument<R: Files + Print + Eprint + AllocGlobal + Clone + Drop>(
     rt: &R,
-    word: &str,
+    argument: &str,
 ) -> Result<bool, Failure> {
     let mut passed = true;
-    for path in file_paths(rt, word)? {
-        passed = told(rt, path.as_str(), run_file(rt, path.as_str())) && passed;
+    for path in file_paths(rt, argument)? {
+        passed = reported(rt, path.as_str(), run_file(rt, path.as_str())) && passed;
     }
     Ok(passed)
 }
 
-// Prints a failure, with which nothing has passed. Where that fails too, the status still says so.
-fn told<R: Eprint>(rt: &R, path: &str, passed: Result<bool, Failure>) -> bool {
+// Prints a failure, which counts as not passed. If it can't be printed, the exit status still reports it.
+fn reported<R: Eprint>(rt: &R, path: &str, passed: Result<bool, Failure>) -> bool {
     match passed {
         Ok(passed) => passed,
         Err(failure) => {

@@ -1,38 +1,40 @@
-//! A script: steps that are taken one after another, and what is wanted of each.
+//! A script: steps that are taken one after another, and what is expected of each.
 
-use crate::own::Own;
 use crate::part::{Part, part_of};
+use crate::script_parts::ScriptParts;
 use crate::state::State;
 use crate::steps::answer;
 use handlebars::JsonValue;
 use std::alloc::AllocError;
 use std::rt::Files;
 use test_steps::answer::Answer;
+use test_steps::expected::{is_expected, report_step};
 use test_steps::fields::items;
 use test_steps::held::put;
 use test_steps::made::data::context_of;
-use test_steps::wanted::{is_wanted, report_step};
 
-/// Whether a step of the script answers something else than is wanted, which is then reported. No step behind that is taken.
+/// Runs a script, and returns whether a step answers something else than is expected. Reports such a step, and stops there.
 pub fn differs<R: Files + AllocGlobal + Clone + Drop>(
     rt: &R,
     script: &JsonValue,
     report: &mut String,
 ) -> Result<bool, AllocError> {
     let alloc = rt.alloc();
-    // (A function that boxes a part may not hand it out, so the parts are boxed here, before any step is taken.)
-    let mut own = Own::new(alloc);
+    // A function that boxes a part may not return it, so the parts are boxed here, before any step is taken.
+    let mut script_parts = ScriptParts::new(alloc);
     let mut number = 0u64;
     for step in items(script, "steps") {
         number = number.saturating_add(1);
         let added = match part_of(alloc, step) {
-            Ok(Some(Part::Helper(part))) => own.add_helper(Box::new(alloc, part)?),
-            Ok(Some(Part::Distance(part))) => own.add_helper(Box::new(alloc, part)?),
-            Ok(Some(Part::RefusingHelper(part))) => own.add_helper(Box::new(alloc, part)?),
-            Ok(Some(Part::Decorator(part))) => own.add_decorator(Box::new(alloc, part)?),
-            Ok(Some(Part::RefusingDecorator(part))) => own.add_decorator(Box::new(alloc, part)?),
-            Ok(Some(Part::Escape(part))) => own.add_escape(Box::new(alloc, part)?),
-            Ok(Some(Part::RefusingEscape(part))) => own.add_escape(Box::new(alloc, part)?),
+            Ok(Some(Part::Helper(part))) => script_parts.add_helper(Box::new(alloc, part)?),
+            Ok(Some(Part::Distance(part))) => script_parts.add_helper(Box::new(alloc, part)?),
+            Ok(Some(Part::FailingHelper(part))) => script_parts.add_helper(Box::new(alloc, part)?),
+            Ok(Some(Part::Decorator(part))) => script_parts.add_decorator(Box::new(alloc, part)?),
+            Ok(Some(Part::FailingDecorator(part))) => script_parts.add_decorator(Box::new(
+                alloc, part,
+            )?),
+            Ok(Some(Part::Escape(part))) => script_parts.add_escape(Box::new(alloc, part)?),
+            Ok(Some(Part::FailingEscape(part))) => script_parts.add_escape(Box::new(alloc, part)?),
             Ok(None) => Ok(()),
             Err(stop) => Err(stop),
         };
@@ -41,10 +43,10 @@ pub fn differs<R: Files + AllocGlobal + Clone + Drop>(
             return Ok(true);
         }
     }
-    takes_all(rt, script, State::new(alloc, own), report)
+    takes_all(rt, script, State::new(alloc, script_parts), report)
 }
 
-// Takes the steps over the script's data, which are null where it has none.
+// Takes the steps over the data of the script. They are null if it has none.
 fn takes_all<R: Files + AllocGlobal + Clone + Drop>(
     rt: &R,
     script: &JsonValue,
@@ -72,7 +74,7 @@ fn takes_over<R: Files + AllocGlobal + Clone + Drop>(
     }
 }
 
-// Takes the steps, up to one that differs.
+// Takes the steps until one differs.
 fn takes<R: Files + AllocGlobal + Clone + Drop>(
     rt: &R,
     script: &JsonValue,
@@ -97,7 +99,7 @@ fn take_differs<R: AllocGlobal>(
     answer: Answer,
     report: &mut String,
 ) -> Result<bool, AllocError> {
-    match is_wanted(rt.alloc(), step, &answer)? {
+    match is_expected(rt.alloc(), step, &answer)? {
         true => Ok(false),
         false => {
             report_step(rt.alloc(), script, number, step, &answer, report)?;

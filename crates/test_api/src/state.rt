@@ -1,27 +1,27 @@
-//! What the steps of a script change.
+//! The state that the steps of a script change.
 
 use crate::memory::Texts;
-use crate::own::Own;
+use crate::script_parts::ScriptParts;
 use handlebars::{Context, Registry, RenderContext, RenderError, StringOutput};
 use std::alloc::{AllocError, Global};
 use std::collections::BTreeMap;
 use test_pieces::HeldPieces;
 use test_steps::scopes::Scopes;
 
-/// All that a script works with.
+/// The state of a script.
 pub struct State {
     pub registry: Registry,
     pub data: Context,
     pub rc: RenderContext,
     pub out: StringOutput,
-    /// How many members had been looked up when that was asked last.
+    /// The number of members that had been looked up when this was last asked.
     pub looked_up: u64,
     pub scopes: Scopes,
     pub copy: Context,
     pub error: Option<RenderError>,
     pub pieces: HeldPieces,
     pub files: Texts,
-    pub own: Own,
+    pub script_parts: ScriptParts,
 }
 
 impl Drop for State {
@@ -37,14 +37,14 @@ impl Drop for State {
             error: _,
             pieces: _,
             files: _,
-            own: _,
+            script_parts: _,
         } = self;
     }
 }
 
 impl State {
-    /// New registry and render context, over null, with the parts that a script registers.
-    pub fn new(alloc: Global, own: Own) -> Result<State, AllocError> {
+    /// Creates a registry and a render context over null data, with the parts that the script registers.
+    pub fn new(alloc: Global, script_parts: ScriptParts) -> Result<State, AllocError> {
         let rc = RenderContext::new(alloc, None)?;
         match Registry::new(alloc) {
             Ok(registry) => Ok(State {
@@ -61,14 +61,14 @@ impl State {
                     alloc,
                     texts: BTreeMap::new(alloc),
                 },
-                own,
+                script_parts,
             }),
             Err(AllocError) => Err(AllocError),
         }
     }
 }
 
-/// What a template is rendered with.
+/// The arguments of a rendering.
 #[derive(Clone, Copy)]
 pub struct Given<'s> {
     pub alloc: Global,

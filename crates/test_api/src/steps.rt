@@ -1,4 +1,4 @@
-//! The steps of scripts, by groups.
+//! The steps of scripts, by group.
 
 mod blocks;
 mod elements;
@@ -22,7 +22,7 @@ use test_steps::calls::lacking;
 use test_steps::fields::text;
 use test_steps::{data, error, reason, scope, tree, value};
 
-/// What the call of a step answers: the field `do` has its group and its name.
+/// Returns what the call of a step answers. The field `do` has the group and the name of the call.
 pub fn answer<R: Files + AllocGlobal + Clone + Drop>(
     rt: &R,
     state: &mut State,
@@ -53,7 +53,13 @@ fn of_group<R: Files + AllocGlobal + Clone + Drop>(
             step,
         ),
         "registry" => registry::answer(alloc, &mut state.registry, call, step),
-        "parts" => parts::answer(alloc, &mut state.registry, &mut state.own, call, step),
+        "parts" => parts::answer(
+            alloc,
+            &mut state.registry,
+            &mut state.script_parts,
+            call,
+            step,
+        ),
         "scope" => scope::answer(alloc, &mut state.scopes, call, step),
         "data" => data::answer(alloc, &mut state.data, &mut state.copy, call, step),
         "error" => error::answer(alloc, &mut state.error, call, step),
@@ -113,7 +119,7 @@ fn of_rendering(
     }
 }
 
-// A group of calls of values that the step describes.
+// The groups whose calls take values that the step describes.
 fn of_values(alloc: Global, group: &str, call: &str, step: &JsonValue) -> Answer {
     match group {
         "tree" => tree::answer(alloc, call, step),

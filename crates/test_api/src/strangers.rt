@@ -1,15 +1,16 @@
-//! A caller who renders texts of strangers.
+//! A caller that renders untrusted data.
 
 ghost use Rattle.std.specs.Prelude.{◌≡◌, IfOk, IfSome, string_bytes};
+ghost use Rattle.handlebars_base.specs.EscapeLaws.{marks_in};
 ghost use Rattle.handlebars_scope.specs.Contexts.{data_of};
 ghost use Rattle.handlebars_markup.specs.Alike.{AreAlike};
-ghost use Rattle.handlebars_markup.specs.Blind.{marks_in};
 
 use handlebars::{Context, Markup, NoFiles, Registry, RenderError};
 use log::Log;
 
-/// The texts of a source over two contexts, where its markup is fixed, and else none: over contexts that differ in texts
-/// alone both texts have the same marks in the same order.
+/// Renders a source over two contexts if its markup is fixed, and returns both texts. Returns none if its markup is not fixed.
+///
+/// If the contexts are equal up to texts, both texts have the same marks in the same order.
 pub fn rendered_alike<L: Log>(
     registry: &Registry,
     source: &str,

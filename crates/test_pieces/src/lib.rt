@@ -1,29 +1,29 @@
-//! An output of a caller's own that holds each piece that it was told of, with all that was told of it, for tests.
+//! A user-defined output that stores the pieces that it is given, each with its origin, for tests.
 #![tactic(auto)]
 
-use handlebars_expand::heard::Heard;
-use handlebars_expand::pieces::{Origin, PieceKind, PieceOutput, Standing};
+use handlebars_expand::pieces::{Origin, PieceKind, PieceOutput, TemplateReference};
+use handlebars_expand::trace::Trace;
 use handlebars_scope::context::full_path::FullPath;
 use handlebars_template::template::TemplateMapping;
 use std::alloc::{AllocError, Global};
 use std::io::ErrorKind;
 use std::{fmt, io};
 
-/// The template in which an element stands.
+/// The template that an element belongs to.
 #[derive(Debug, Drop, PartialEq)]
-pub enum HeldStanding {
+pub enum HeldTemplateReference {
     First,
     Included(Option<String>),
 }
 
-/// A piece, with all that was told of it. It is printed in this order.
+/// A piece with its origin. It is printed in the order of the fields.
 #[derive(PartialEq)]
 pub struct HeldPiece {
     pub kind: PieceKind,
     pub text: String,
-    pub template: HeldStanding,
-    pub place: Option<(usize, usize)>,
-    pub turns: Vec<usize>,
+    pub template: HeldTemplateReference,
+    pub position: Option<(usize, usize)>,
+    pub iterations: Vec<usize>,
     pub path: Option<Vec<String>>,
 }
 
@@ -33,8 +33,8 @@ impl Drop for HeldPiece {
             kind: _,
             text: _,
             template: _,
-            place: _,
-            turns: _,
+            position: _,
+            iterations: _,
             path: _,
         } = self;
     }
@@ -45,13 +45,13 @@ impl HeldPiece {
         let mut piece = HeldPiece {
             kind: origin.kind,
             text: String::from_str(alloc, text)?,
-            template: HeldStanding::First,
-            place: held_place(origin.spot.place),
-            turns: Vec::new(alloc),
+            template: HeldTemplateReference::First,
+            position: held_position(origin.location.position),
+            iterations: Vec::new(alloc),
             path: None,
         };
-        piece.template = held_standing(alloc, origin.spot.template)?;
-        piece.turns = origin.spot.turns.to_vec(alloc)?;
+        piece.template = held_template_reference(alloc, origin.location.template)?;
+        piece.iterations = origin.location.iterations.to_vec(alloc)?;
         piece.path = held_path(alloc, origin.path)?;
         Ok(piece)
     }
@@ -60,23 +60,30 @@ impl HeldPiece {
 impl fmt::Display for HeldPiece {
     fn fmt<W: fmt::Write>(&self, f: &mut fmt::Formatter<W>) -> fmt::Result {
         write!(f, "{} {:?} {:?} ", self.kind, self.text, self.template)?;
-        write!(f, "{:?} {:?} {:?}", self.place, self.turns, self.path)
+        write!(
+            f,
+            "{:?} {:?} {:?}",
+            self.position, self.iterations, self.path
+        )
     }
 }
 
-fn held_standing(alloc: Global, template: Standing<'_>) -> Result<HeldStanding, AllocError> {
+fn held_template_reference(
+    alloc: Global,
+    template: TemplateReference<'_>,
+) -> Result<HeldTemplateReference, AllocError> {
     match template {
-        Standing::First => Ok(HeldStanding::First),
-        Standing::Included(None) => Ok(HeldStanding::Included(None)),
-        Standing::Included(Some(name)) => {
+        TemplateReference::First => Ok(HeldTemplateReference::First),
+        TemplateReference::Included(None) => Ok(HeldTemplateReference::Included(None)),
+        TemplateReference::Included(Some(name)) => {
             let name = String::from_str(alloc, name)?;
-            Ok(HeldStanding::Included(Some(name)))
+            Ok(HeldTemplateReference::Included(Some(name)))
         }
     }
 }
 
-fn held_place(place: Option<&TemplateMapping>) -> Option<(usize, usize)> {
-    match place {
+fn held_position(position: Option<&TemplateMapping>) -> Option<(usize, usize)> {
+    match position {
         Some(TemplateMapping(line, column)) => Some((*line, *column)),
         None => None,
     }
@@ -89,37 +96,37 @@ fn held_path(alloc: Global, path: Option<FullPath<'_>>) -> Result<Option<Vec<Str
     }
 }
 
-/// Holds so many pieces. The next one is refused, and so are all behind it.
+/// Stores at most this many pieces. The next one fails, and so do all after it.
 #[derive(Drop)]
 pub struct HeldPieces {
     pub pieces: Vec<HeldPiece>,
-    /// How often it had no room.
-    pub refused: u64,
+    /// How many pieces were given to it after it was full.
+    pub failed: u64,
     alloc: Global,
-    room: usize,
-    fault: ErrorKind,
-    heard: Heard,
+    capacity: usize,
+    write_error: ErrorKind,
+    trace: Trace,
 }
 
 impl HeldPieces {
-    /// Has room for all.
+    /// Creates an output that stores any number of pieces.
     pub fn new(alloc: Global) -> HeldPieces {
-        HeldPieces::with_room(alloc, usize::MAX, ErrorKind::Other)
+        HeldPieces::with_capacity(alloc, usize::MAX, ErrorKind::Other)
     }
 
-    /// Refuses those that it has no room for by an error of this kind.
-    pub fn with_room(alloc: Global, room: usize, fault: ErrorKind) -> HeldPieces {
+    /// Creates an output that stores at most `capacity` pieces, and fails for the others with an error of this kind.
+    pub fn with_capacity(alloc: Global, capacity: usize, write_error: ErrorKind) -> HeldPieces {
         HeldPieces {
             pieces: Vec::new(alloc),
-            refused: 0,
+            failed: 0,
             alloc,
-            room,
-            fault,
-            heard: Heard::nothing(),
+            capacity,
+            write_error,
+            trace: Trace::nothing(),
         }
     }
 
-    /// The text of the pieces.
+    /// Returns the joined texts of the pieces.
     pub fn text(&self) -> Result<String, AllocError> {
         let mut text = String::new(self.alloc);
         for piece in &self.pieces {
@@ -130,16 +137,16 @@ impl HeldPieces {
 }
 
 impl PieceOutput for HeldPieces {
-    ghost told = { λ o. o.heard.told };
+    ghost emitted = { λ o. o.trace.emitted };
 
     fn piece(&mut self, text: &str, origin: &Origin<'_>) -> Result<(), io::Error> {
-        if self.pieces.len() >= self.room {
-            self.refused = self.refused.saturating_add(1);
-            return Err(io::Error::from(self.fault));
+        if self.pieces.len() >= self.capacity {
+            self.failed = self.failed.saturating_add(1);
+            return Err(io::Error::from(self.write_error));
         }
         let piece = HeldPiece::of(self.alloc, text, origin)?;
         self.pieces.push(piece)?;
-        self.heard = self.heard.and(text.as_bytes(), origin);
+        self.trace = self.trace.and(text.as_bytes(), origin);
         Ok(())
     }
 }

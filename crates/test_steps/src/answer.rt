@@ -12,12 +12,12 @@ pub enum Stop {
     OutOfMemory,
     /// A field that it needs is missing or wrong.
     Field,
-    /// No call has the name, or the call is not to be asked here.
+    /// No call has this name, or the call is not allowed here.
     Call,
 }
 
 impl Stop {
-    /// What is said of it.
+    /// Returns the message.
     pub fn text(self) -> &'static str {
         match self {
             Stop::OutOfMemory => "out of memory",
@@ -42,22 +42,22 @@ impl<T: Drop> From<AllocFailed<T>> for Stop {
 /// The text that is compared, or why there is none.
 pub type Answer = Result<String, Stop>;
 
-/// A text that is an answer.
-pub fn kept(text: Result<String, AllocError>) -> Answer {
+/// Returns the text as an answer.
+pub fn text_answer(text: Result<String, AllocError>) -> Answer {
     text.map_err(Stop::from)
 }
 
-/// What a value is, by its constructors.
+/// Prints a value by its constructors.
 pub fn shown<T: Debug + Drop>(alloc: Global, value: T) -> Answer {
-    kept(format!(in alloc; "{value:?}"))
+    text_answer(format!(in alloc; "{value:?}"))
 }
 
-/// What a value is printed as.
+/// Prints a value as it displays itself.
 pub fn printed<T: Display + Drop>(alloc: Global, value: T) -> Answer {
-    kept(format!(in alloc; "{value}"))
+    text_answer(format!(in alloc; "{value}"))
 }
 
-/// What a value that was made is, by its constructors.
+/// Prints a value by its constructors, if it was made.
 pub fn shown_if<T: Debug + Drop>(alloc: Global, made: Result<T, Stop>) -> Answer {
     match made {
         Ok(value) => shown(alloc, value),
@@ -65,29 +65,29 @@ pub fn shown_if<T: Debug + Drop>(alloc: Global, made: Result<T, Stop>) -> Answer
     }
 }
 
-/// What there is to say of a call without an answer.
+/// Returns the answer of a call that returns nothing.
 pub fn done(alloc: Global) -> Answer {
     shown(alloc, ())
 }
 
-/// What an error says: its reason, its line, its column and its name, by their constructors.
+/// Prints the parts of an error: its reason, its line, its column and its template name, by their constructors.
 pub fn said(alloc: Global, error: &RenderError) -> Answer {
-    let place = (error.line_no, error.column_no);
+    let position = (error.line_no, error.column_no);
     shown(
         alloc,
-        (error.reason(), place.0, place.1, &error.template_name),
+        (error.reason(), position.0, position.1, &error.template_name),
     )
 }
 
-/// The error that a call is refused with, and what it says.
-pub fn refused<T: Drop>(alloc: Global, answer: Result<T, RenderError>) -> Answer {
+/// Prints the parts of the error that a call fails with.
+pub fn failed<T: Drop>(alloc: Global, answer: Result<T, RenderError>) -> Answer {
     match answer {
         Ok(_) => printed(alloc, "no error"),
         Err(error) => said(alloc, &error),
     }
 }
 
-/// The name of the template in the error.
+/// Prints the template name of the error.
 pub fn name_in(alloc: Global, answer: Result<String, RenderError>) -> Answer {
     match answer {
         Ok(_) => done(alloc),
@@ -95,18 +95,18 @@ pub fn name_in(alloc: Global, answer: Result<String, RenderError>) -> Answer {
     }
 }
 
-/// The error as it is printed, behind the kind of its cause, if that is an error of the system's.
+/// Prints the error as it displays itself, after the kind of its cause if that is an I/O error.
 pub fn error_in(alloc: Global, answer: Result<String, RenderError>) -> Answer {
     match answer {
         Ok(_) => done(alloc),
-        Err(error) => printed(alloc, BehindKind(&error)),
+        Err(error) => printed(alloc, AfterKind(&error)),
     }
 }
 
 #[derive(Clone, Copy)]
-struct BehindKind<'e>(&'e RenderError);
+struct AfterKind<'e>(&'e RenderError);
 
-impl Display for BehindKind<'_> {
+impl Display for AfterKind<'_> {
     fn fmt<W: fmt::Write>(&self, f: &mut fmt::Formatter<W>) -> fmt::Result {
         let kind = kind_of(self.0);
         write!(f, "{kind:?}: {}", self.0)

@@ -3,7 +3,7 @@
 use crate::fields::text;
 use serde_json::Value as JsonValue;
 
-// Each call that needs fields, with these.
+// Each call that needs fields, with these fields.
 const NEEDS: &str =
     "registry.template name source; registry.partial name source; registry.tree name; \
     registry.unregister_template name; registry.limit to; parts.built_in name kind; parts.helper name; \
@@ -26,7 +26,7 @@ const NEEDS: &str =
     markup.source_faults source; pieces.of_name name; pieces.of_source source; file.write_page path name; \
     file.read path; file.put path text; file.anew name path; file.as_registered name; output.slow left";
 
-/// The first field that the call of a step needs and the step lacks, if there is one.
+/// Returns the first field that the call of a step needs and the step lacks, if there is one.
 pub fn lacking(step: &JsonValue) -> Option<&'static str> {
     let call = text(step, "do");
     for line in NEEDS.split("; ") {

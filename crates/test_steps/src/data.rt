@@ -1,6 +1,6 @@
-//! Data, and the values that are converted to it.
+//! Data, and values that are converted to data.
 
-use crate::answer::{Answer, Stop, done, kept, refused, shown, shown_if};
+use crate::answer::{Answer, Stop, done, failed, shown, shown_if, text_answer};
 use crate::fields::{copied, items, number, number_at, text};
 use crate::held::{had, if_made, put};
 use crate::made::data::{bytes_of, context_of};
@@ -11,7 +11,7 @@ use serde::Serialize;
 use serde_json::Value as JsonValue;
 use std::alloc::{AllocError, Global};
 
-/// What a call answers.
+/// Returns what a call answers.
 pub fn answer(
     alloc: Global,
     data: &mut Context,
@@ -52,14 +52,14 @@ fn wrap_u8(alloc: Global, data: &mut Context, number: Option<u8>) -> Answer {
     }
 }
 
-// Where it is refused, the data stay as they are.
+// If wrapping fails, the data are unchanged.
 fn set_wrapped(alloc: Global, data: &mut Context, wrapped: Result<Context, RenderError>) -> Answer {
     match wrapped {
         Ok(wrapped) => {
             *data = wrapped;
             done(alloc)
         }
-        Err(error) => refused::<()>(alloc, Err(error)),
+        Err(error) => failed::<()>(alloc, Err(error)),
     }
 }
 
@@ -74,7 +74,7 @@ fn set_copy(alloc: Global, copy: &mut Context, given: Result<JsonValue, AllocErr
 fn set(alloc: Global, answer: Result<(), RenderError>) -> Answer {
     match answer {
         Ok(()) => done(alloc),
-        Err(error) => refused::<()>(alloc, Err(error)),
+        Err(error) => failed::<()>(alloc, Err(error)),
     }
 }
 
@@ -91,7 +91,7 @@ fn of_value(alloc: Global, call: &str, step: &JsonValue) -> Answer {
     }
 }
 
-// Arrays in one another around null.
+// Nested arrays around null.
 fn nested(alloc: Global, step: &JsonValue) -> Result<JsonValue, Stop> {
     let mut nested = JsonValue::Null;
     let made = nest_all(alloc, &mut nested, number(step, "depth"));
@@ -114,7 +114,7 @@ fn around(alloc: Global, inner: JsonValue) -> Result<JsonValue, AllocError> {
     Ok(JsonValue::Array(vec![in alloc; inner]?))
 }
 
-// Whether the data of wrapped arrays are these, or the reason is an error of serde's.
+// Whether the data of wrapped arrays are equal to these, or whether the reason is an error of serde.
 fn wrap_nested(alloc: Global, nested: Result<JsonValue, Stop>) -> Answer {
     match nested {
         Ok(nested) => is_wrapped(alloc, Context::wraps(alloc, &nested), &nested),
@@ -145,12 +145,12 @@ fn convert_nested(alloc: Global, nested: Result<JsonValue, Stop>) -> Answer {
 
 fn json_of(alloc: Global, value: Result<JsonValue, AllocError>) -> Answer {
     match value {
-        Ok(value) => kept(value.to_string(alloc)),
+        Ok(value) => text_answer(value.to_string(alloc)),
         Err(AllocError) => Err(Stop::OutOfMemory),
     }
 }
 
-// What no JSON says: an array with nothing in it, the first number outside `i64`, and a negative one.
+// Values that JSON can't describe: an array with `None` in it, the first number outside `i64`, and a negative one.
 fn convert_samples(alloc: Global) -> Answer {
     json_of(
         alloc,
@@ -173,7 +173,7 @@ fn is(alloc: Global, value: Result<JsonValue, AllocError>, given: &JsonValue) ->
     }
 }
 
-// The text that a converted text is, or converted bytes are.
+// The text of a converted text, or of converted bytes.
 fn text_of(alloc: Global, step: &JsonValue) -> Answer {
     match step.get("bytes") {
         Some(_) => text_of_bytes(alloc, bytes_of(alloc, items(step, "bytes"))),

@@ -1,14 +1,14 @@
-//! Errors that are made by hand.
+//! Errors that are made without a rendering.
 
 use crate::answer::{Answer, Stop, done, printed, said};
 use crate::fields::{joined, number, owned, text, text_at};
 use handlebars_base::error::{RenderError, TemplateError, TemplateErrorReason};
-use handlebars_base::output::output_fault;
+use handlebars_base::output::output_error;
 use serde_json::Value as JsonValue;
 use std::alloc::{AllocError, Global};
 use std::io;
 
-/// What a call answers.
+/// Returns what a call answers.
 pub fn answer(
     alloc: Global,
     error: &mut Option<RenderError>,
@@ -36,14 +36,14 @@ fn error_of(alloc: Global, call: &str, step: &JsonValue) -> Option<RenderError> 
         }
         "of_template_memory" => Some(TemplateError::of(TemplateErrorReason::OutOfMemory).into()),
         "of_memory" => Some(AllocError.into()),
-        "of_output_memory" => Some(output_fault(AllocError.into())),
+        "of_output_memory" => Some(output_error(AllocError.into())),
         _ => None,
     }
 }
 
 const DISK: &str = "disk";
 
-// The error of strict mode about a name, or about none.
+// The error of strict mode for a name, or without one.
 fn strict(alloc: Global, step: &JsonValue) -> Option<RenderError> {
     match text_at(step, "name") {
         Some(_) => strict_about(alloc, owned(alloc, step, "name")),
@@ -58,7 +58,7 @@ fn strict_about(alloc: Global, name: Result<String, AllocError>) -> Option<Rende
     }
 }
 
-// The error of a call, if it made one.
+// Stores the error that a call made. If it made none, the step has no answer.
 fn make(alloc: Global, error: &mut Option<RenderError>, made: Option<RenderError>) -> Answer {
     let is_made = made.is_some();
     *error = made;
@@ -87,11 +87,11 @@ fn at(alloc: Global, error: &mut Option<RenderError>, step: &JsonValue) -> Answe
         number(step, "line") as usize,
         number(step, "column") as usize,
     );
-    let placed = match error.take() {
+    let positioned = match error.take() {
         Some(error) => Some(error.at(line, column)),
         None => None,
     };
-    make(alloc, error, placed)
+    make(alloc, error, positioned)
 }
 
 fn in_template(
@@ -106,7 +106,7 @@ fn in_template(
     make(alloc, error, named)
 }
 
-// What an error of a source without a name prints, at a line and a column.
+// What the error of a source without a name prints, with a line and a column.
 fn of_template(alloc: Global, source: Result<String, AllocError>, step: &JsonValue) -> Answer {
     match source {
         Ok(source) => printed(alloc, error_in(alloc, source.as_str(), step)),

@@ -1,34 +1,34 @@
-//! The fields of a step, and of what it describes. One that is missing, or of another kind, reads as nothing.
+//! The fields of a step, and of the values that it describes. A field that is missing, or has another type, reads as empty.
 
 use serde_json::Value as JsonValue;
 use std::alloc::{AllocError, Global};
 
-/// A field that is a text, if it is one.
+/// Returns a field that is a text, if it is one.
 pub fn text_at<'s>(it: &'s JsonValue, name: &str) -> Option<&'s str> {
     it.get(name).and_then(JsonValue::as_str)
 }
 
-/// A field that is a text.
+/// Returns a field that is a text, or the empty text.
 pub fn text<'s>(it: &'s JsonValue, name: &str) -> &'s str {
     text_at(it, name).unwrap_or("")
 }
 
-/// A field that is a number, if it is one.
+/// Returns a field that is an unsigned integer, if it is one.
 pub fn number_at(it: &JsonValue, name: &str) -> Option<u64> {
     it.get(name).and_then(JsonValue::as_u64)
 }
 
-/// A field that is a number.
+/// Returns a field that is an unsigned integer, or 0.
 pub fn number(it: &JsonValue, name: &str) -> u64 {
     number_at(it, name).unwrap_or(0)
 }
 
-/// Whether a field is true.
+/// Returns whether a field is true.
 pub fn flag(it: &JsonValue, name: &str) -> bool {
     it.get(name).and_then(JsonValue::as_bool).unwrap_or(false)
 }
 
-/// The items of a field that is an array.
+/// Returns the items of a field that is an array. Empty if it is none.
 pub fn items<'s>(it: &'s JsonValue, name: &str) -> &'s [JsonValue] {
     match it.get(name).and_then(JsonValue::as_array) {
         Some(items) => items.as_slice(),
@@ -36,7 +36,7 @@ pub fn items<'s>(it: &'s JsonValue, name: &str) -> &'s [JsonValue] {
     }
 }
 
-/// A copy of a field.
+/// Returns a copy of a field, or null.
 pub fn copied(it: &JsonValue, name: &str) -> Result<JsonValue, AllocError> {
     match it.get(name) {
         Some(value) => value.clone(),
@@ -44,12 +44,12 @@ pub fn copied(it: &JsonValue, name: &str) -> Result<JsonValue, AllocError> {
     }
 }
 
-/// A text of its own, that of a field.
+/// Returns a copy of the text of a field.
 pub fn owned(alloc: Global, it: &JsonValue, name: &str) -> Result<String, AllocError> {
     String::from_str(alloc, text(it, name))
 }
 
-/// The texts of an array.
+/// Returns copies of the texts of an array.
 pub fn owned_all(alloc: Global, texts: &[JsonValue]) -> Result<Vec<String>, AllocError> {
     let mut all = Vec::new(alloc);
     match push_all(alloc, &mut all, texts) {
@@ -69,7 +69,7 @@ fn push_text(alloc: Global, all: &mut Vec<String>, text: &str) -> Result<(), All
     Ok(all.push(String::from_str(alloc, text)?)?)
 }
 
-/// The text of a field: a text, or an array of texts, which are joined.
+/// Returns the text of a field: a text, or the joined texts of an array.
 pub fn joined(alloc: Global, it: &JsonValue, name: &str) -> Result<String, AllocError> {
     match text_at(it, name) {
         Some(text) => String::from_str(alloc, text),

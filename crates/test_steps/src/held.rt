@@ -1,8 +1,8 @@
-//! Values that are made, and where they are put.
+//! Values that are made, and where they are stored.
 
 use crate::answer::Stop;
 
-/// A value that is let go by one call, whatever it is made of.
+/// A value of any type that one call can drop.
 pub struct Held<T> {
     pub value: T,
 }
@@ -14,14 +14,14 @@ impl<T: Drop> Drop for Held<T> {
 }
 
 impl<T> Held<T> {
-    /// The value alone.
+    /// Returns the value.
     pub fn into_value(self) -> T {
         let Held { value } = self;
         value
     }
 }
 
-/// The value of an answer. Where there is none, what it was asked of is wrong.
+/// Returns the value of an answer. If there is none, the field that it was made from is wrong.
 pub fn taken<T: Drop, E: Drop>(answer: Result<T, E>) -> Result<T, Stop> {
     match answer {
         Ok(value) => Ok(value),
@@ -29,7 +29,7 @@ pub fn taken<T: Drop, E: Drop>(answer: Result<T, E>) -> Result<T, Stop> {
     }
 }
 
-/// The value of an answer that only memory can be wanting for.
+/// Returns the value of an answer that can only fail when memory runs out.
 pub fn had<T: Drop, E: Drop>(answer: Result<T, E>) -> Result<T, Stop> {
     match answer {
         Ok(value) => Ok(value),
@@ -37,7 +37,7 @@ pub fn had<T: Drop, E: Drop>(answer: Result<T, E>) -> Result<T, Stop> {
     }
 }
 
-/// Appends what was made.
+/// Appends a value, if it was made.
 pub fn push<T: Drop>(all: &mut Vec<T>, made: Result<T, Stop>) -> Result<(), Stop> {
     match made {
         Ok(value) => had(all.push(value)),
@@ -45,21 +45,21 @@ pub fn push<T: Drop>(all: &mut Vec<T>, made: Result<T, Stop>) -> Result<(), Stop
     }
 }
 
-/// Puts what was made in the place.
-pub fn put<T: Drop>(place: &mut T, made: Result<T, Stop>) -> Result<(), Stop> {
+/// Replaces the value of `slot`, if the new one was made.
+pub fn put<T: Drop>(slot: &mut T, made: Result<T, Stop>) -> Result<(), Stop> {
     match made {
         Ok(value) => {
-            *place = value;
+            *slot = value;
             Ok(())
         }
         Err(stop) => Err(stop),
     }
 }
 
-/// Lets a value go.
+/// Drops a value.
 pub fn let_go<T: Drop>(_value: T) {}
 
-/// What was made, if all else was made too.
+/// Returns a value, if everything else was made too.
 pub fn if_made<T: Drop>(value: T, all: Result<(), Stop>) -> Result<T, Stop> {
     match all {
         Ok(()) => Ok(value),

@@ -1,11 +1,12 @@
-//! Steps of scripts, as far as they ask neither a registry nor a render context: how their fields are read, what is made of
-//! these, what calls answer, and whether that is wanted. `docs/SCRIPTS.md` has the format.
+//! The steps of scripts that need neither a registry nor a render context: how their fields are read, what is made from them,
+//! what calls answer, and whether that is expected. `docs/SCRIPTS.md` has the format.
 #![tactic(auto)]
 
 pub mod answer;
 pub mod calls;
 pub mod data;
 pub mod error;
+pub mod expected;
 pub mod fields;
 pub mod held;
 pub mod made;
@@ -14,5 +15,4 @@ pub mod scope;
 pub mod scopes;
 pub mod tree;
 pub mod value;
-pub mod wanted;
 pub mod writer;

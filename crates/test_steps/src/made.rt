@@ -1,4 +1,4 @@
-//! What a script describes: trees and their parts, data, values, and views of calls.
+//! The values that a script describes: trees and their parts, data, values, and views of calls.
 
 pub mod data;
 pub mod parameter;

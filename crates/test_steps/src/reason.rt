@@ -1,4 +1,4 @@
-//! What reasons print as, of those that no rendering of a row comes to.
+//! What error reasons print, for those that no rendering of a test case fails with.
 
 use crate::answer::{Answer, Stop, printed, shown};
 use crate::fields::{owned, text};
@@ -6,13 +6,13 @@ use crate::held::had;
 use handlebars_base::error::{
     RenderErrorReason as Reason, TemplateError, TemplateErrorReason as Broken,
 };
-use handlebars_base::output::output_fault;
+use handlebars_base::output::output_error;
 use serde_json::Value as JsonValue;
 use std::alloc::{AllocError, Global};
 use std::fmt::Display;
 use std::io;
 
-/// What a call answers.
+/// Returns what a call answers.
 pub fn answer(alloc: Global, call: &str, step: &JsonValue) -> Answer {
     match call {
         "unimplemented" => printed(alloc, Reason::Unimplemented),
@@ -21,7 +21,7 @@ pub fn answer(alloc: Global, call: &str, step: &JsonValue) -> Answer {
             alloc,
             Reason::from(TemplateError::of(Broken::NestedSubexpression)),
         ),
-        "output" => printed(alloc, output_fault(io::Error::other("disk"))),
+        "output" => printed(alloc, output_error(io::Error::other("disk"))),
         "json" => json(
             alloc,
             text(step, "kind"),
@@ -70,31 +70,31 @@ fn mismatch(call: &str, name: String, kind: String) -> Reason {
     }
 }
 
-// Whether the reason that is made of a cause is printed as its kind, and after that the cause.
-fn is_behind<E: Display + Drop>(alloc: Global, kind: &str, cause: E) -> Answer
+// Whether a reason that is made from a cause prints its kind, and the cause after it.
+fn is_after<E: Display + Drop>(alloc: Global, kind: &str, cause: E) -> Answer
 where
     Reason: From<E>,
 {
-    let wanted = format!(in alloc; "{kind}: {cause}");
-    prints(alloc, printed(alloc, Reason::from(cause)), wanted)
+    let expected = format!(in alloc; "{kind}: {cause}");
+    prints(alloc, printed(alloc, Reason::from(cause)), expected)
 }
 
-fn prints(alloc: Global, text: Answer, wanted: Result<String, AllocError>) -> Answer {
-    match (text, wanted) {
-        (Ok(text), Ok(wanted)) => shown(alloc, text == wanted),
+fn prints(alloc: Global, text: Answer, expected: Result<String, AllocError>) -> Answer {
+    match (text, expected) {
+        (Ok(text), Ok(expected)) => shown(alloc, text == expected),
         _ => Err(Stop::OutOfMemory),
     }
 }
 
-// Of the error of a text that isn't JSON.
+// The reason made from the error of a text that isn't JSON.
 fn json(alloc: Global, kind: &str, read: Result<JsonValue, serde_json::Error>) -> Answer {
     match read {
         Ok(_) => Err(Stop::Field),
-        Err(cause) => is_behind(alloc, kind, cause),
+        Err(cause) => is_after(alloc, kind, cause),
     }
 }
 
-// Of the error of bytes that aren't UTF-8.
+// The reason made from the error of bytes that aren't UTF-8.
 fn utf8(alloc: Global, kind: &str) -> Answer {
     match had(vec![in alloc; 255]) {
         Ok(bytes) => utf8_of(alloc, kind, bytes),
@@ -105,6 +105,6 @@ fn utf8(alloc: Global, kind: &str) -> Answer {
 fn utf8_of(alloc: Global, kind: &str, bytes: Vec<u8>) -> Answer {
     match String::from_utf8(bytes) {
         Ok(_) => Err(Stop::Call),
-        Err(cause) => is_behind(alloc, kind, cause),
+        Err(cause) => is_after(alloc, kind, cause),
     }
 }

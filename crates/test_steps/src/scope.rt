@@ -1,4 +1,4 @@
-//! Variables, names that are bound, and a block of scope, made by hand.
+//! Local variables, block parameters and a scope frame, without a rendering.
 
 use crate::answer::{Answer, Stop, done, shown, shown_if};
 use crate::fields::{copied, items, owned, owned_all, text};
@@ -12,7 +12,7 @@ use serde_json::Value as JsonValue;
 use std::alloc::{AllocError, Global};
 use std::rc::Rc;
 
-/// What a call answers.
+/// Returns what a call answers.
 pub fn answer(alloc: Global, scopes: &mut Scopes, call: &str, step: &JsonValue) -> Answer {
     match call {
         "copy" => shown_if(alloc, copy(&mut scopes.variables)),
@@ -28,7 +28,7 @@ fn copy(variables: &mut LocalVars) -> Result<(), Stop> {
     put(variables, had(variables.clone()))
 }
 
-// Puts a value under a name.
+// Stores a value under a name.
 fn put_in(alloc: Global, variables: &mut LocalVars, step: &JsonValue) -> Answer {
     match copied(step, "value") {
         Ok(value) => shown(alloc, variables.put(text(step, "name"), value)),
@@ -36,7 +36,7 @@ fn put_in(alloc: Global, variables: &mut LocalVars, step: &JsonValue) -> Answer 
     }
 }
 
-// The names that were added become those of the block, with none in their place.
+// Moves the names that were added to the scope frame. None are left.
 fn take_params(alloc: Global, scopes: &mut Scopes) -> Answer {
     let params = std::mem::replace(&mut scopes.params, BlockParams::new(alloc));
     scopes.block.set_block_params(params);
@@ -74,7 +74,7 @@ fn param(alloc: Global, holder: Option<&BlockParamHolder>) -> Answer {
     }
 }
 
-// ---- a block
+// ---- a scope frame
 
 fn of_block(alloc: Global, block: &mut BlockContext, call: &str, step: &JsonValue) -> Answer {
     let name = text(step, "name");
@@ -100,12 +100,12 @@ fn change(alloc: Global, block: &mut BlockContext, call: &str, step: &JsonValue)
     }
 }
 
-// Its path and its value.
+// The path and the value of the frame.
 fn base(alloc: Global, block: &BlockContext) -> Answer {
     shown(alloc, (block.base_path(), block.base_value()))
 }
 
-// The path of the block goes on by a name.
+// Appends a name to the path of the frame.
 fn follow(alloc: Global, block: &mut BlockContext, step: &JsonValue) -> Answer {
     shown_if(
         alloc,

@@ -1,6 +1,6 @@
-//! Blocks of scope that are made by hand: the one that is being made, and those in a list.
+//! Scope frames without a rendering: the one that is being made, and those in a list.
 
-use crate::answer::{Answer, Stop, refused, shown, shown_if};
+use crate::answer::{Answer, Stop, failed, shown, shown_if};
 use crate::held::had;
 use handlebars_base::error::RenderError;
 use handlebars_base::json::path::{Path, PathSeg};
@@ -11,7 +11,7 @@ use handlebars_scope::local_vars::LocalVars;
 use std::alloc::Global;
 use std::collections::VecDeque;
 
-/// Blocks of scope, and what they are made of.
+/// Scope frames, and what they are made from.
 pub struct Scopes {
     pub variables: LocalVars,
     pub params: BlockParams,
@@ -31,7 +31,7 @@ impl Drop for Scopes {
 }
 
 impl Scopes {
-    /// A new block, and none in the list.
+    /// Creates an empty scope frame and an empty list.
     pub fn new(alloc: Global) -> Scopes {
         Scopes {
             variables: LocalVars::new(alloc),
@@ -42,18 +42,18 @@ impl Scopes {
     }
 }
 
-/// The block that was made, with a new one in its place.
+/// Returns the scope frame that was made, and replaces it by a new one.
 pub fn take_block(alloc: Global, block: &mut BlockContext) -> BlockContext {
     std::mem::replace(block, BlockContext::new(alloc))
 }
 
-/// Moves the block that was made to the front of the list.
+/// Moves the scope frame that was made to the start of the list.
 pub fn push_front(alloc: Global, scopes: &mut Scopes) -> Answer {
     let block = take_block(alloc, &mut scopes.block);
     shown_if(alloc, had(scopes.blocks.push_front(block)))
 }
 
-/// The value that a path leads to in the data and the blocks of the list, and its full path.
+/// Returns the value that a path leads to in the data and the scope frames of the list, and its full path.
 pub fn navigate(
     alloc: Global,
     data: &Context,
@@ -83,6 +83,6 @@ fn along(
 fn found(alloc: Global, answer: Result<ScopedJson<'_>, RenderError>) -> Answer {
     match answer {
         Ok(found) => shown(alloc, (found.as_json(), found.context_path())),
-        Err(error) => refused::<()>(alloc, Err(error)),
+        Err(error) => failed::<()>(alloc, Err(error)),
     }
 }

@@ -1,9 +1,9 @@
-//! Trees that are made by hand, without a rendering.
+//! Hand-built trees, without a rendering.
 
 use crate::answer::{Answer, Stop, shown, shown_if};
 use crate::fields::{flag, items, text};
 use crate::held::{Held, had};
-use crate::made::parameter::{pairs_of, parameter_at, parameters_of, spec_of};
+use crate::made::parameter::{hash_of, parameter_at, parameters_of, spec_of};
 use crate::made::tree::{compiled, element_at};
 use handlebars_template::template::{
     DecoratorTemplate, ExpressionSpec, HelperTemplate, Parameter, Subexpression, Template,
@@ -13,7 +13,7 @@ use serde_json::Value as JsonValue;
 use std::alloc::{AllocError, Global};
 use std::collections::BTreeMap;
 
-/// What a call answers.
+/// Returns what a call answers.
 pub fn answer(alloc: Global, call: &str, step: &JsonValue) -> Answer {
     match call {
         "new" => shown(alloc, Template::new(alloc)),
@@ -57,7 +57,7 @@ fn decorator(alloc: Global, spec: Result<ExpressionSpec, Stop>, indent: bool) ->
     }
 }
 
-// Whether a call is a block, whether it is chained, and whether white stands before it.
+// Whether a call is a block, whether it is chained, and whether whitespace precedes it.
 fn helper(alloc: Global, spec: Result<ExpressionSpec, Stop>, step: &JsonValue) -> Answer {
     match spec {
         Ok(spec) => marks(alloc, &template_of(spec, step)),
@@ -80,13 +80,13 @@ fn marks(alloc: Global, call: &HelperTemplate) -> Answer {
     )
 }
 
-// A call that is made by hand.
+// A hand-built call.
 fn call_of(alloc: Global, step: &JsonValue) -> Result<Subexpression, Stop> {
     called(
         alloc,
         parameter_at(alloc, step, "name"),
         parameters_of(alloc, items(step, "params")),
-        pairs_of(alloc, step),
+        hash_of(alloc, step),
     )
 }
 
@@ -94,15 +94,15 @@ fn called(
     alloc: Global,
     name: Result<Parameter, Stop>,
     params: Result<Vec<Parameter>, Stop>,
-    pairs: Result<BTreeMap<String, Parameter>, Stop>,
+    hash: Result<BTreeMap<String, Parameter>, Stop>,
 ) -> Result<Subexpression, Stop> {
-    match (name, params, pairs) {
-        (Ok(name), Ok(params), Ok(pairs)) => had(Subexpression::new(alloc, name, params, pairs)),
+    match (name, params, hash) {
+        (Ok(name), Ok(params), Ok(hash)) => had(Subexpression::new(alloc, name, params, hash)),
         _ => Err(Stop::Field),
     }
 }
 
-// Whether a call is a helper's, its name, whether its element is an expression, and whether it is what a text is read as.
+// Whether a call is a helper's, its name, whether its element is an expression, and whether a text parses to it.
 fn call_and_read(
     alloc: Global,
     call: Result<Subexpression, Stop>,
@@ -123,22 +123,22 @@ fn compared(alloc: Global, call: &Subexpression, read: &Subexpression) -> Answer
     )
 }
 
-// Whether another element in the place of a call is a helper's, its name, its parameters and its pairs.
+// For an element that is not a call: whether it is a helper's, its name, its parameters and its hash arguments.
 fn no_call(alloc: Global, element: Result<TemplateElement, Stop>) -> Answer {
     match element {
-        Ok(element) => in_place_of_call(alloc, had(Box::new(alloc, element))),
+        Ok(element) => instead_of_call(alloc, had(Box::new(alloc, element))),
         Err(stop) => Err(stop),
     }
 }
 
-fn in_place_of_call(alloc: Global, element: Result<Box<TemplateElement>, Stop>) -> Answer {
+fn instead_of_call(alloc: Global, element: Result<Box<TemplateElement>, Stop>) -> Answer {
     match element {
-        Ok(element) => told(alloc, &Subexpression { element }),
+        Ok(element) => described(alloc, &Subexpression { element }),
         Err(stop) => Err(stop),
     }
 }
 
-fn told(alloc: Global, call: &Subexpression) -> Answer {
+fn described(alloc: Global, call: &Subexpression) -> Answer {
     shown(
         alloc,
         (

@@ -1,6 +1,6 @@
-//! Values with where they came from.
+//! Values with their origins.
 
-use crate::answer::{Answer, Stop, kept, said, shown};
+use crate::answer::{Answer, Stop, said, shown, text_answer};
 use crate::fields::flag;
 use crate::held::had;
 use crate::made::scoped::{given_of, scoped_of};
@@ -13,7 +13,7 @@ use serde_json::Value as JsonValue;
 use std::alloc::Global;
 use std::fmt::Debug;
 
-/// What a call answers.
+/// Returns what a call answers.
 pub fn answer(alloc: Global, call: &str, step: &JsonValue) -> Answer {
     match call {
         "render" => rendered(alloc, scoped(alloc, step)),
@@ -25,7 +25,7 @@ pub fn answer(alloc: Global, call: &str, step: &JsonValue) -> Answer {
     }
 }
 
-// A value, or what is derived of it.
+// A value, or the value derived from it.
 fn scoped<'s>(alloc: Global, step: &'s JsonValue) -> Result<ScopedJson<'s>, Stop> {
     match flag(step, "into_derived") {
         true => derived(alloc, scoped_of(alloc, step)),
@@ -42,12 +42,12 @@ fn derived<'s>(alloc: Global, value: Result<ScopedJson<'s>, Stop>) -> Result<Sco
 
 fn rendered(alloc: Global, value: Result<ScopedJson<'_>, Stop>) -> Answer {
     match value {
-        Ok(value) => kept(value.render(alloc)),
+        Ok(value) => text_answer(value.render(alloc)),
         Err(stop) => Err(stop),
     }
 }
 
-// Its place in the data, its value, and whether it is missing.
+// The path of the value in the data, the value, and whether it is missing.
 fn found(alloc: Global, value: Result<ScopedJson<'_>, Stop>) -> Answer {
     match value {
         Ok(value) => shown(
@@ -67,20 +67,20 @@ fn relative_path(alloc: Global, given: Result<PathAndJson<'_>, Stop>) -> Answer 
 
 fn given(alloc: Global, given: Result<PathAndJson<'_>, Stop>) -> Answer {
     match given {
-        Ok(given) => told(alloc, &given),
+        Ok(given) => described(alloc, &given),
         Err(stop) => Err(stop),
     }
 }
 
 // The path as written, the full path, the constant, whether it is missing, the value, and its text, twice.
-fn told(alloc: Global, given: &PathAndJson<'_>) -> Answer {
+fn described(alloc: Global, given: &PathAndJson<'_>) -> Answer {
     let value = given.value();
-    let places = (given.relative_path(), given.context_path());
+    let paths = (given.relative_path(), given.context_path());
     match (value.render(alloc), given.render(alloc)) {
         (Ok(own), Ok(text)) => shown(
             alloc,
             (
-                places,
+                paths,
                 given.try_get_constant_value(),
                 given.is_value_missing(),
                 value,
@@ -92,7 +92,7 @@ fn told(alloc: Global, given: &PathAndJson<'_>) -> Answer {
     }
 }
 
-// The level and the line of a call of `log`, or its refusal.
+// The level and the line of a call of `log`, or its error.
 fn record(alloc: Global, call: Result<Helper<'_>, Stop>) -> Answer {
     match call {
         Ok(call) => either(alloc, log_record(alloc, &call)),
@@ -107,20 +107,20 @@ fn either<T: Debug + Drop, E: Debug + Drop>(alloc: Global, answer: Result<T, E>)
     }
 }
 
-/// What a parameter comes to: its path as written and in the data, its value, the constant, and whether it is missing; or
-/// what its error says.
+/// Prints an expanded parameter: its path as written and in the data, its value, the constant, and whether it is missing; or
+/// the parts of the error.
 pub fn expanded(alloc: Global, answer: Result<PathAndJson<'_>, RenderError>) -> Answer {
     match answer {
-        Ok(given) => told_of_parameter(alloc, &given),
+        Ok(given) => described_parameter(alloc, &given),
         Err(error) => said(alloc, &error),
     }
 }
 
-fn told_of_parameter(alloc: Global, given: &PathAndJson<'_>) -> Answer {
-    let places = (given.relative_path(), given.context_path());
+fn described_parameter(alloc: Global, given: &PathAndJson<'_>) -> Answer {
+    let paths = (given.relative_path(), given.context_path());
     let constant = given.try_get_constant_value();
     shown(
         alloc,
-        (places, given.value(), constant, given.is_value_missing()),
+        (paths, given.value(), constant, given.is_value_missing()),
     )
 }

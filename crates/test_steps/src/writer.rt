@@ -3,7 +3,7 @@
 use std::io;
 use std::io::Write;
 
-/// Takes at most two bytes a write, and after so many writes nothing. It has no contract that tells what it holds.
+/// Takes at most two bytes a write, and nothing more after a number of writes. It has no contract about what it holds.
 pub struct Slow {
     pub taken: Vec<u8>,
     pub left: u64,

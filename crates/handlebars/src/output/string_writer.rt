@@ -1,13 +1,14 @@
-//! A writer that keeps what is written to it.
+//! A writer that stores what is written to it.
 
 ghost use Rattle.std.specs.Prelude.{◌≡◌, string_bytes};
-ghost use Rattle.handlebars.specs.Writers.{bytes_in, text_of};
+ghost use Rattle.handlebars.specs.Writers.{bytes_in, utf8_or_empty};
 
 use std::alloc::Global;
 use std::io;
 use std::io::Write;
 
-/// Keeps bytes, for a text of them. A write fails only for want of memory, and then nothing of it is kept.
+/// A writer that stores bytes, to make a text of them. A write fails only when memory runs out, and then none of it is
+/// stored.
 #[derive(Drop)]
 pub struct StringWriter {
     alloc: Global,
@@ -17,7 +18,7 @@ pub struct StringWriter {
 impl StringWriter {
     ghost use Rattle.std.specs.Prelude.{[]};
 
-    /// Nothing yet; this takes no memory.
+    /// Creates a writer that holds nothing yet. Doesn't allocate.
     pub fn new(alloc: Global) -> StringWriter
         ensures { bytes_in result ≡ [] }
     {
@@ -27,9 +28,9 @@ impl StringWriter {
         }
     }
 
-    /// All that was written, where it is UTF-8, and else the empty text.
+    /// Returns all that was written, if it is UTF-8, and otherwise the empty text.
     pub fn into_string(self) -> String
-        ensures { string_bytes result ≡ text_of (bytes_in self) }
+        ensures { string_bytes result ≡ utf8_or_empty (bytes_in self) }
     {
         match String::from_utf8(self.bytes) {
             Ok(text) => text,
@@ -58,9 +59,9 @@ impl Write for StringWriter {
         self.bytes.write(buf)
     }
 
-    /// Keeps nothing back, so it never fails.
+    /// Does nothing: the writer has no buffer to flush. Never fails.
     fn flush(&mut self) -> io::Result<()>
-        ensures kept { bytes_in self.new ≡ bytes_in self.old }
+        ensures unchanged { bytes_in self.new ≡ bytes_in self.old }
         ensures done { IfErr result (λ _. ⊥) }
     {
         Ok(())

@@ -1,4 +1,4 @@
-//! What a writer has taken. It exists in proofs alone: at run time it has no bytes, and nothing is kept.
+//! What a writer has taken. It exists in proofs alone: at run time it has no bytes, and nothing is stored.
 
 ghost use Rattle.std.specs.Prelude.{◌≡◌, ◌++◌, []};
 ghost use Rattle.std.specs.Borrow.{ftrue};
@@ -23,7 +23,7 @@ impl Taken {
         Taken {}
     }
 
-    // With these bytes behind it.
+    // The text with these bytes after it.
     pub(crate) fn and(&self, _bytes: &[u8]) -> Taken
         ensures { result.text ≡ self.now.text ++ _bytes.now }
     {

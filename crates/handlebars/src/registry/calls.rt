@@ -1,10 +1,12 @@
 //! The calls that render, by the name of a template or by a source: over a context or over data that is converted
-//! first, into a text or to a writer. In dev mode the files of templates are read anew first, and their trees laid over
-//! the stored ones; without it the reader isn't asked. What each call answers is what the language's definition gives,
-//! at the registry and over the data: the text that is the join of the pieces of the one answer, or its refusal, with
-//! reason, position and name. Each piece comes from a tree of the run and the data. A larger limit changes no answer
-//! but a refusal for it, and templates that nothing names change none. Over data that differs in texts alone, blind templates
-//! write the same markup. The logger is given the lines of `log`.
+//! first, into a text or to a writer. In dev mode the files of templates are read anew first, and their trees are
+//! overlaid on the stored ones. Without dev mode no file is read.
+//!
+//! Each call returns what the language's definition gives, for the registry and over the data: the text that is the
+//! join of the pieces of the one answer, or the error, with reason, position and name. Each piece comes from a tree of
+//! the run and the data. Raising the inclusion limit never changes a rendering that doesn't fail for the limit.
+//! Templates that a rendering does not include do not affect it. Over data that is equal up to its texts, blind
+//! templates write the same markup. The logger is given the lines of `log`.
 
 ghost use Rattle.std.specs.Prelude.{◌≡◌, ◌≢◌, IfOk, IfErr, OnErr, List, None, Some, option_map, string_bytes, false};
 ghost use Rattle.serde_json.specs.Data.{Data};
@@ -12,19 +14,19 @@ ghost use Rattle.handlebars_base.specs.Answers.{IsRefusal};
 ghost use Rattle.handlebars_base.specs.Reasons.{out_of_memory, template_not_found, template_out_of_memory};
 ghost use Rattle.handlebars_base.specs.RenderRefusals.{plain_refusal, refusal_of, reason_in};
 ghost use Rattle.handlebars_base.specs.TemplateRefusals.{template_refusal_of};
-ghost use Rattle.handlebars_template.specs.Compile.{Compiles, compiled, refused};
+ghost use Rattle.handlebars_template.specs.Compile.{Compiles, compiled, rejected};
 ghost use Rattle.handlebars_template.specs.TreeView.{tree_view};
 ghost use Rattle.handlebars_scope.specs.Contexts.{data_of};
-ghost use Rattle.handlebars_meaning.specs.Answer.{FromSource, FromName, GivesText};
-ghost use Rattle.handlebars_meaning.specs.Answer.{RefusesWith, HasOneAnswer, AnswerHasOrigins};
-ghost use Rattle.handlebars_meaning.specs.Answer.{AnswerStays, NamedAnswerStays};
+ghost use Rattle.handlebars_semantics.specs.Answer.{FromSource, FromName, GivesText};
+ghost use Rattle.handlebars_semantics.specs.Answer.{FailsWith, HasOneAnswer, AnswerHasOrigins};
+ghost use Rattle.handlebars_semantics.specs.Answer.{AnswerStays, NamedAnswerStays};
 ghost use Rattle.handlebars_markup.specs.TwoRuns.{HasFixedMarkup};
-ghost use Rattle.handlebars_meaning.specs.State.{first_state};
+ghost use Rattle.handlebars_semantics.specs.State.{first_state};
 ghost use Rattle.handlebars_expand.specs.View.{state_of, root_of, has_failed};
 ghost use Rattle.handlebars.specs.Calls.{BeginsWith, Converts, ConvertsOr, Writes};
 ghost use Rattle.handlebars.specs.Calls.{WritesConverted, WritesReading, WritesSource};
-ghost use Rattle.handlebars.specs.Dev.{AsksFor, HasRead, RefusesReading, RefusesSource, stored_under};
-ghost use Rattle.handlebars.specs.Files.{Loaded, is_dev, laid_over, tree_in};
+ghost use Rattle.handlebars.specs.Dev.{AsksFor, HasRead, FailsWithFiles, FailsWithSource, stored_under};
+ghost use Rattle.handlebars.specs.Files.{Loaded, is_dev, overlaid_on, tree_in};
 ghost use Rattle.handlebars.specs.Over.{setting_under, setting_with};
 ghost use Rattle.handlebars.specs.View.{modes_of, options_of, stored_tree};
 
@@ -33,7 +35,7 @@ use crate::registry::writing::write_template;
 use crate::render::over::renders_over;
 use crate::sources::TemplateReader;
 use handlebars_base::error::{RenderError, RenderErrorReason, TemplateError};
-use handlebars_helpers::entries::OwnParts;
+use handlebars_helpers::entries::UserParts;
 use handlebars_render::context::RenderContext;
 use handlebars_scope::context::Context;
 use handlebars_template::template::{Template, TemplateOptions};
@@ -44,9 +46,13 @@ use std::collections::BTreeMap;
 use std::io::Write;
 
 // By name.
-impl<E: OwnParts> RegistryOf<E> {
-    /// Renders the template under the name over data, which is converted first; `TemplateNotFound` where none stands
-    /// there.
+impl<E: UserParts> RegistryOf<E> {
+    /// Renders the template under the name over data, which is converted first, and returns the text.
+    ///
+    /// # Errors
+    ///
+    /// Fails with the error of the conversion, or as `render_with_context` does. If the conversion fails, no file is
+    /// read.
     pub fn render<T: Serialize, L: Log, R: TemplateReader>(
         &self,
         name: &str,
@@ -56,28 +62,33 @@ impl<E: OwnParts> RegistryOf<E> {
     ) -> Result<String, RenderError>
         ensures ok { IfOk result (λ text. Converts T.writes «data».now
             (λ d. HasRead R.reads self.now (Some name.now) files.old files.new
-            (λ read. GivesText (setting_under E.registered E.own read self.now d)
+            (λ read. GivesText (setting_under E.registered E.user read self.now d)
             (FromName (stored_under read self.now) name.now) (string_bytes text)))) }
         ensures err { IfErr result (λ e. reason_in e ≢ out_of_memory → ConvertsOr T.writes «data».now (refusal_of e)
-            (files.new ≡ files.old) (λ d. RefusesReading R.reads self.now (Some name.now) files.old files.new
-            (λ read f. RefusesWith (setting_under E.registered E.own read self.now d)
+            (files.new ≡ files.old) (λ d. FailsWithFiles R.reads self.now (Some name.now) files.old files.new
+            (λ read f. FailsWith (setting_under E.registered E.user read self.now d)
             (FromName (stored_under read self.now) name.now) f) e)) }
-        ensures one { (d : Data) (read : List Loaded) → HasOneAnswer (setting_under E.registered E.own read self.now d)
+        ensures one { (d : Data) (read : List Loaded) → HasOneAnswer (setting_under E.registered E.user read self.now d)
             (FromName (stored_under read self.now) name.now) }
         ensures origins { (d : Data) (read : List Loaded)
-            → AnswerHasOrigins (setting_under E.registered E.own read self.now d)
+            → AnswerHasOrigins (setting_under E.registered E.user read self.now d)
             (FromName (stored_under read self.now) name.now) }
         ensures asks { AsksFor R.reads self.now (Some name.now) files.old files.new }
         ensures unread { is_dev self.now ≡ false → files.new ≡ files.old }
     {
-        self.entries.keeps_law();
+        self.entries.satisfies_law();
         match Context::wraps(self.alloc, data) {
             Ok(ctx) => self.render_with_context(name, &ctx, log, files),
             Err(e) => Err(e),
         }
     }
 
-    /// Renders the template under the name over a context.
+    /// Renders the template under the name over a context, and returns the text.
+    ///
+    /// # Errors
+    ///
+    /// Fails with `TemplateNotFound` if no template is registered under the name, with the error of a file that can't
+    /// be read or doesn't compile in dev mode, or with the error that the definition gives; also when memory runs out.
     pub fn render_with_context<L: Log, R: TemplateReader>(
         &self,
         name: &str,
@@ -85,32 +96,32 @@ impl<E: OwnParts> RegistryOf<E> {
         log: &L,
         files: &mut R,
     ) -> Result<String, RenderError>
-        // The files are read, and the text is the definition's with their trees laid over the stored ones.
+        // The files are read, and the text is the definition's, with their trees overlaid on the stored ones.
         ensures ok { IfOk result (λ text. HasRead R.reads self.now (Some name.now) files.old files.new (λ read.
-            GivesText (setting_under E.registered E.own read self.now (data_of ctx.now))
+            GivesText (setting_under E.registered E.user read self.now (data_of ctx.now))
             (FromName (stored_under read self.now) name.now)
             (string_bytes text))) }
 
-        // A refusal, but for want of memory, is that of a file, or the definition's with the trees of all files.
+        // An error, other than out of memory, is that of a file, or the definition's with the trees of all files.
         ensures err { IfErr result (λ e. reason_in e ≢ out_of_memory
-            → RefusesReading R.reads self.now (Some name.now) files.old files.new
-            (λ read f. RefusesWith (setting_under E.registered E.own read self.now (data_of ctx.now))
+            → FailsWithFiles R.reads self.now (Some name.now) files.old files.new
+            (λ read f. FailsWith (setting_under E.registered E.user read self.now (data_of ctx.now))
             (FromName (stored_under read self.now) name.now) f) e) }
         ensures one { (read : List Loaded)
-            → HasOneAnswer (setting_under E.registered E.own read self.now (data_of ctx.now))
+            → HasOneAnswer (setting_under E.registered E.user read self.now (data_of ctx.now))
             (FromName (stored_under read self.now) name.now) }
         ensures origins { (read : List Loaded)
-            → AnswerHasOrigins (setting_under E.registered E.own read self.now (data_of ctx.now))
+            → AnswerHasOrigins (setting_under E.registered E.user read self.now (data_of ctx.now))
             (FromName (stored_under read self.now) name.now) }
         ensures stays { (read : List Loaded)
-            → NamedAnswerStays (setting_under E.registered E.own read self.now (data_of ctx.now)) name.now }
-        ensures alike { (read : List Loaded)
-            → HasFixedMarkup (setting_under E.registered E.own read self.now (data_of ctx.now))
+            → NamedAnswerStays (setting_under E.registered E.user read self.now (data_of ctx.now)) name.now }
+        ensures agree { (read : List Loaded)
+            → HasFixedMarkup (setting_under E.registered E.user read self.now (data_of ctx.now))
             (FromName (stored_under read self.now) name.now) }
         ensures asks { AsksFor R.reads self.now (Some name.now) files.old files.new }
         ensures unread { is_dev self.now ≡ false → files.new ≡ files.old }
     {
-        self.entries.keeps_law();
+        self.entries.satisfies_law();
         let read = self.read_for(Some(name), files)?;
         let Some(template) = self.template_over(&read, name) else {
             let name = String::from_str(self.alloc, name)?;
@@ -120,9 +131,14 @@ impl<E: OwnParts> RegistryOf<E> {
         renders_over(template, self.alloc, self, &read, ctx, &mut rc, log)
     }
 
-    /// Renders the template under the name to a writer, which is written to as the pieces come. A refusal leaves what
-    /// was written before it, and so does a fault of the writer, which is `IOError`, but for want of memory; while a
-    /// boolean helper's word is written it is `Other`.
+    /// Renders the template under the name over data, which is converted first, to a writer, which is written to as the
+    /// pieces come.
+    ///
+    /// # Errors
+    ///
+    /// Fails as `render` does, and with a write error of the writer. Output that was written before an error is not
+    /// taken back. A write error, other than out of memory, is `IOError`; it is `Other` if it occurs while the text of
+    /// a boolean helper is written.
     pub fn render_to_write<T: Serialize, W: Write, L: Log, R: TemplateReader>(
         &self,
         name: &str,
@@ -133,25 +149,29 @@ impl<E: OwnParts> RegistryOf<E> {
     ) -> Result<(), RenderError>
         ensures writes { WritesConverted T.writes «data».now (files.new ≡ files.old)
             (λ d. WritesReading R.reads self.now (Some name.now) files.old files.new
-            (λ read. Writes (setting_under E.registered E.own read self.now d)
+            (λ read. Writes (setting_under E.registered E.user read self.now d)
             (FromName (stored_under read self.now) name.now)))
             (W.contents writer.old) (W.contents writer.new) result }
-        ensures one { (d : Data) (read : List Loaded) → HasOneAnswer (setting_under E.registered E.own read self.now d)
+        ensures one { (d : Data) (read : List Loaded) → HasOneAnswer (setting_under E.registered E.user read self.now d)
             (FromName (stored_under read self.now) name.now) }
         ensures origins { (d : Data) (read : List Loaded)
-            → AnswerHasOrigins (setting_under E.registered E.own read self.now d)
+            → AnswerHasOrigins (setting_under E.registered E.user read self.now d)
             (FromName (stored_under read self.now) name.now) }
         ensures asks { AsksFor R.reads self.now (Some name.now) files.old files.new }
         ensures unread { is_dev self.now ≡ false → files.new ≡ files.old }
     {
-        self.entries.keeps_law();
+        self.entries.satisfies_law();
         match Context::wraps(self.alloc, data) {
             Ok(ctx) => self.render_with_context_to_write(name, &ctx, writer, log, files),
             Err(e) => Err(e),
         }
     }
 
-    /// Renders the template under the name to a writer, over a context.
+    /// Renders the template under the name over a context to a writer.
+    ///
+    /// # Errors
+    ///
+    /// Fails as `render_with_context` does, and with a write error of the writer, as `render_to_write` does.
     pub fn render_with_context_to_write<W: Write, L: Log, R: TemplateReader>(
         &self,
         name: &str,
@@ -161,24 +181,24 @@ impl<E: OwnParts> RegistryOf<E> {
         files: &mut R,
     ) -> Result<(), RenderError>
         ensures writes { WritesReading R.reads self.now (Some name.now) files.old files.new
-            (λ read. Writes (setting_under E.registered E.own read self.now (data_of ctx.now))
+            (λ read. Writes (setting_under E.registered E.user read self.now (data_of ctx.now))
             (FromName (stored_under read self.now) name.now))
             (W.contents writer.old) (W.contents writer.new) result }
         ensures one { (read : List Loaded)
-            → HasOneAnswer (setting_under E.registered E.own read self.now (data_of ctx.now))
+            → HasOneAnswer (setting_under E.registered E.user read self.now (data_of ctx.now))
             (FromName (stored_under read self.now) name.now) }
         ensures origins { (read : List Loaded)
-            → AnswerHasOrigins (setting_under E.registered E.own read self.now (data_of ctx.now))
+            → AnswerHasOrigins (setting_under E.registered E.user read self.now (data_of ctx.now))
             (FromName (stored_under read self.now) name.now) }
         ensures stays { (read : List Loaded)
-            → NamedAnswerStays (setting_under E.registered E.own read self.now (data_of ctx.now)) name.now }
-        ensures alike { (read : List Loaded)
-            → HasFixedMarkup (setting_under E.registered E.own read self.now (data_of ctx.now))
+            → NamedAnswerStays (setting_under E.registered E.user read self.now (data_of ctx.now)) name.now }
+        ensures agree { (read : List Loaded)
+            → HasFixedMarkup (setting_under E.registered E.user read self.now (data_of ctx.now))
             (FromName (stored_under read self.now) name.now) }
         ensures asks { AsksFor R.reads self.now (Some name.now) files.old files.new }
         ensures unread { is_dev self.now ≡ false → files.new ≡ files.old }
     {
-        self.entries.keeps_law();
+        self.entries.satisfies_law();
         match self.read_for(Some(name), files) {
             Ok(read) => self.write_named(name, &read, ctx, writer, log),
             Err(e) => Err(e),
@@ -194,8 +214,8 @@ impl<E: OwnParts> RegistryOf<E> {
         writer: &mut W,
         log: &L,
     ) -> Result<(), RenderError>
-        ensures { Writes (setting_with E.registered E.own (tree_in read.now) self.now (data_of ctx.now))
-            (FromName (laid_over (tree_in read.now) (stored_tree self.now)) name.now)
+        ensures { Writes (setting_with E.registered E.user (tree_in read.now) self.now (data_of ctx.now))
+            (FromName (overlaid_on (tree_in read.now) (stored_tree self.now)) name.now)
             (W.contents writer.old) (W.contents writer.new) result }
     {
         match self.template_named(name, read) {
@@ -210,9 +230,9 @@ impl<E: OwnParts> RegistryOf<E> {
         name: &str,
         read: &'a BTreeMap<String, Template>,
     ) -> Result<&'a Template, RenderError>
-        ensures ok { IfOk result (λ t. laid_over (tree_in read.now) (stored_tree self.now) name.now
+        ensures ok { IfOk result (λ t. overlaid_on (tree_in read.now) (stored_tree self.now) name.now
             ≡ Some (tree_view t.now)) }
-        ensures none { OnErr result (laid_over (tree_in read.now) (stored_tree self.now) name.now ≡ None) }
+        ensures none { OnErr result (overlaid_on (tree_in read.now) (stored_tree self.now) name.now ≡ None) }
         ensures err { IfErr result (IsRefusal (plain_refusal (template_not_found name.now))) }
     {
         let Some(template) = self.template_over(read, name) else {
@@ -224,8 +244,13 @@ impl<E: OwnParts> RegistryOf<E> {
 }
 
 // By source.
-impl<E: OwnParts> RegistryOf<E> {
-    /// Renders a source over data, which is converted first.
+impl<E: UserParts> RegistryOf<E> {
+    /// Renders a source over data, which is converted first, and returns the text.
+    ///
+    /// # Errors
+    ///
+    /// Fails with the error of the conversion, or as `render_template_with_context` does. If the conversion fails, no
+    /// file is read.
     pub fn render_template<T: Serialize, L: Log, R: TemplateReader>(
         &self,
         source: &str,
@@ -235,29 +260,35 @@ impl<E: OwnParts> RegistryOf<E> {
     ) -> Result<String, RenderError>
         ensures ok { IfOk result (λ text. Converts T.writes «data».now
             (λ d. HasRead R.reads self.now None files.old files.new
-            (λ read. GivesText (setting_under E.registered E.own read self.now d)
+            (λ read. GivesText (setting_under E.registered E.user read self.now d)
             (FromSource (options_of self.now) source.now) (string_bytes text)))) }
         ensures err { IfErr result (λ e. reason_in e ≢ out_of_memory → ConvertsOr T.writes «data».now (refusal_of e)
             (files.new ≡ files.old)
-            (λ d. RefusesSource R.reads self.now (options_of self.now) source.now files.old files.new
-            (λ read f. RefusesWith (setting_under E.registered E.own read self.now d)
+            (λ d. FailsWithSource R.reads self.now (options_of self.now) source.now files.old files.new
+            (λ read f. FailsWith (setting_under E.registered E.user read self.now d)
             (FromSource (options_of self.now) source.now) f) e)) }
-        ensures one { (d : Data) (read : List Loaded) → HasOneAnswer (setting_under E.registered E.own read self.now d)
+        ensures one { (d : Data) (read : List Loaded) → HasOneAnswer (setting_under E.registered E.user read self.now d)
             (FromSource (options_of self.now) source.now) }
         ensures origins { (d : Data) (read : List Loaded)
-            → AnswerHasOrigins (setting_under E.registered E.own read self.now d)
+            → AnswerHasOrigins (setting_under E.registered E.user read self.now d)
             (FromSource (options_of self.now) source.now) }
         ensures asks { AsksFor R.reads self.now None files.old files.new }
         ensures unread { is_dev self.now ≡ false → files.new ≡ files.old }
     {
-        self.entries.keeps_law();
+        self.entries.satisfies_law();
         match Context::wraps(self.alloc, data) {
             Ok(ctx) => self.render_template_with_context(source, &ctx, log, files),
             Err(e) => Err(e),
         }
     }
 
-    /// Renders a source over a context.
+    /// Renders a source over a context, and returns the text.
+    ///
+    /// # Errors
+    ///
+    /// Fails with the error of the source if it doesn't compile, and no file is read then; with the error of a file
+    /// that can't be read or doesn't compile in dev mode; or with the error that the definition gives; also when memory
+    /// runs out.
     pub fn render_template_with_context<L: Log, R: TemplateReader>(
         &self,
         source: &str,
@@ -266,44 +297,48 @@ impl<E: OwnParts> RegistryOf<E> {
         files: &mut R,
     ) -> Result<String, RenderError>
         // The source is compiled and the files are read, and the text is the join of the pieces of the one answer that
-        // the language's definition gives with their trees laid over the stored ones.
+        // the language's definition gives with their trees overlaid on the stored ones.
         ensures ok { IfOk result (λ text. HasRead R.reads self.now None files.old files.new (λ read.
-            GivesText (setting_under E.registered E.own read self.now (data_of ctx.now))
+            GivesText (setting_under E.registered E.user read self.now (data_of ctx.now))
             (FromSource (options_of self.now) source.now)
             (string_bytes text))) }
 
-        // A refusal, but for want of memory, is that of the source, and no file is asked for, or that of a file, with the
-        // kind of the system's error where it can't be read, or the definition's with the trees of all files: its reason,
-        // its position and its name.
+        // An error, other than out of memory, is that of the source, and no file is asked for; or it is that of a file,
+        // with the kind of the system's error if the file can't be read; or it is the definition's with the trees of
+        // all files: its reason, its position and its name.
         ensures err { IfErr result (λ e. reason_in e ≢ out_of_memory
-            → RefusesSource R.reads self.now (options_of self.now) source.now files.old files.new
-            (λ read f. RefusesWith (setting_under E.registered E.own read self.now (data_of ctx.now))
+            → FailsWithSource R.reads self.now (options_of self.now) source.now files.old files.new
+            (λ read f. FailsWith (setting_under E.registered E.user read self.now (data_of ctx.now))
             (FromSource (options_of self.now) source.now) f) e) }
 
         // There is at most one such answer, and each of its pieces comes from a tree of the run and the data.
         ensures one { (read : List Loaded)
-            → HasOneAnswer (setting_under E.registered E.own read self.now (data_of ctx.now))
+            → HasOneAnswer (setting_under E.registered E.user read self.now (data_of ctx.now))
             (FromSource (options_of self.now) source.now) }
         ensures origins { (read : List Loaded)
-            → AnswerHasOrigins (setting_under E.registered E.own read self.now (data_of ctx.now))
+            → AnswerHasOrigins (setting_under E.registered E.user read self.now (data_of ctx.now))
             (FromSource (options_of self.now) source.now) }
         ensures stays { (read : List Loaded)
-            → AnswerStays (setting_under E.registered E.own read self.now (data_of ctx.now))
+            → AnswerStays (setting_under E.registered E.user read self.now (data_of ctx.now))
             (FromSource (options_of self.now) source.now) }
-        ensures alike { (read : List Loaded)
-            → HasFixedMarkup (setting_under E.registered E.own read self.now (data_of ctx.now))
+        ensures agree { (read : List Loaded)
+            → HasFixedMarkup (setting_under E.registered E.user read self.now (data_of ctx.now))
             (FromSource (options_of self.now) source.now) }
         ensures asks { AsksFor R.reads self.now None files.old files.new }
         ensures unread { is_dev self.now ≡ false → files.new ≡ files.old }
     {
-        self.entries.keeps_law();
+        self.entries.satisfies_law();
         let template = self.compiled(source)?;
         let read = self.read_for(None, files)?;
         let mut rc = self.first_context(None)?;
         renders_over(&template, self.alloc, self, &read, ctx, &mut rc, log)
     }
 
-    /// Renders a source over data to a writer, which is written to as for a template by name.
+    /// Renders a source over data, which is converted first, to a writer.
+    ///
+    /// # Errors
+    ///
+    /// Fails as `render_template` does, and with a write error of the writer, as `render_to_write` does.
     pub fn render_template_to_write<T: Serialize, W: Write, L: Log, R: TemplateReader>(
         &self,
         source: &str,
@@ -314,18 +349,18 @@ impl<E: OwnParts> RegistryOf<E> {
     ) -> Result<(), RenderError>
         ensures writes { WritesConverted T.writes «data».now (files.new ≡ files.old)
             (λ d. WritesSource R.reads self.now (options_of self.now) source.now files.old files.new
-            (λ read. Writes (setting_under E.registered E.own read self.now d)
+            (λ read. Writes (setting_under E.registered E.user read self.now d)
             (FromSource (options_of self.now) source.now)))
             (W.contents writer.old) (W.contents writer.new) result }
-        ensures one { (d : Data) (read : List Loaded) → HasOneAnswer (setting_under E.registered E.own read self.now d)
+        ensures one { (d : Data) (read : List Loaded) → HasOneAnswer (setting_under E.registered E.user read self.now d)
             (FromSource (options_of self.now) source.now) }
         ensures origins { (d : Data) (read : List Loaded)
-            → AnswerHasOrigins (setting_under E.registered E.own read self.now d)
+            → AnswerHasOrigins (setting_under E.registered E.user read self.now d)
             (FromSource (options_of self.now) source.now) }
         ensures asks { AsksFor R.reads self.now None files.old files.new }
         ensures unread { is_dev self.now ≡ false → files.new ≡ files.old }
     {
-        self.entries.keeps_law();
+        self.entries.satisfies_law();
         match Context::wraps(self.alloc, data) {
             Ok(ctx) => self.render_template_with_context_to_write(source, &ctx, writer, log, files),
             Err(e) => Err(e),
@@ -333,6 +368,10 @@ impl<E: OwnParts> RegistryOf<E> {
     }
 
     /// Renders a source over a context to a writer.
+    ///
+    /// # Errors
+    ///
+    /// Fails as `render_template_with_context` does, and with a write error of the writer, as `render_to_write` does.
     pub fn render_template_with_context_to_write<W: Write, L: Log, R: TemplateReader>(
         &self,
         source: &str,
@@ -342,32 +381,32 @@ impl<E: OwnParts> RegistryOf<E> {
         files: &mut R,
     ) -> Result<(), RenderError>
         ensures writes { WritesSource R.reads self.now (options_of self.now) source.now files.old files.new
-            (λ read. Writes (setting_under E.registered E.own read self.now (data_of ctx.now))
+            (λ read. Writes (setting_under E.registered E.user read self.now (data_of ctx.now))
             (FromSource (options_of self.now) source.now))
             (W.contents writer.old) (W.contents writer.new) result }
         ensures one { (read : List Loaded)
-            → HasOneAnswer (setting_under E.registered E.own read self.now (data_of ctx.now))
+            → HasOneAnswer (setting_under E.registered E.user read self.now (data_of ctx.now))
             (FromSource (options_of self.now) source.now) }
         ensures origins { (read : List Loaded)
-            → AnswerHasOrigins (setting_under E.registered E.own read self.now (data_of ctx.now))
+            → AnswerHasOrigins (setting_under E.registered E.user read self.now (data_of ctx.now))
             (FromSource (options_of self.now) source.now) }
         ensures stays { (read : List Loaded)
-            → AnswerStays (setting_under E.registered E.own read self.now (data_of ctx.now))
+            → AnswerStays (setting_under E.registered E.user read self.now (data_of ctx.now))
             (FromSource (options_of self.now) source.now) }
-        ensures alike { (read : List Loaded)
-            → HasFixedMarkup (setting_under E.registered E.own read self.now (data_of ctx.now))
+        ensures agree { (read : List Loaded)
+            → HasFixedMarkup (setting_under E.registered E.user read self.now (data_of ctx.now))
             (FromSource (options_of self.now) source.now) }
         ensures asks { AsksFor R.reads self.now None files.old files.new }
         ensures unread { is_dev self.now ≡ false → files.new ≡ files.old }
     {
-        self.entries.keeps_law();
+        self.entries.satisfies_law();
         match self.compiled(source) {
             Ok(template) => self.write_compiled(&template, ctx, writer, log, files),
             Err(e) => Err(e.into()),
         }
     }
 
-    // A compiled source to a writer, once the files are read.
+    // A compiled source to a writer, after the files are read.
     fn write_compiled<W: Write, L: Log, R: TemplateReader>(
         &self,
         template: &Template,
@@ -377,7 +416,7 @@ impl<E: OwnParts> RegistryOf<E> {
         files: &mut R,
     ) -> Result<(), RenderError>
         ensures writes { WritesReading R.reads self.now None files.old files.new
-            (λ read. Writes (setting_under E.registered E.own read self.now (data_of ctx.now))
+            (λ read. Writes (setting_under E.registered E.user read self.now (data_of ctx.now))
             (BeginsWith (tree_view template.now)))
             (W.contents writer.old) (W.contents writer.new) result }
         ensures asks { AsksFor R.reads self.now None files.old files.new }
@@ -393,7 +432,7 @@ impl<E: OwnParts> RegistryOf<E> {
     pub(crate) fn compiled(&self, source: &str) -> Result<Template, TemplateError>
         ensures ok { IfOk result (λ t. Compiles source.now (options_of self.now) (compiled (tree_view t))) }
         ensures err { IfErr result (λ e. (template_refusal_of e).reason ≢ template_out_of_memory
-            → Compiles source.now (options_of self.now) (refused (template_refusal_of e))) }
+            → Compiles source.now (options_of self.now) (rejected (template_refusal_of e))) }
     {
         let options = TemplateOptions {
             name: None,

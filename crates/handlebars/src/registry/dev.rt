@@ -3,7 +3,7 @@
 ghost use Rattle.std.specs.Prelude.{◌≡◌, true, cond, is_some, IfOk, OnOk};
 ghost use Rattle.std.specs.Prelude.{OnErr, None, Some, option_map, string_bytes};
 ghost use Rattle.handlebars_base.specs.Bytes.{Text};
-ghost use Rattle.handlebars.specs.Files.{IsByName, files_in, path_in, path_put};
+ghost use Rattle.handlebars.specs.Files.{IsByName, files_in, source_path, path_put};
 
 use std::alloc::{AllocError, Global};
 use std::collections::BTreeMap;
@@ -15,24 +15,24 @@ pub struct DevFiles {
 }
 
 impl DevFiles {
-    /// Without dev mode.
+    /// Creates it without dev mode.
     pub fn new() -> DevFiles
         ensures { result.paths ≡ None }
     {
         DevFiles { paths: None }
     }
 
-    /// Whether dev mode is on.
+    /// Returns whether dev mode is on.
     pub fn is_on(&self) -> bool
         ensures { result ≡ is_some self.now.paths }
     {
         self.paths.is_some()
     }
 
-    /// Dev mode is on from now on, with the files that are remembered, or it is off.
-    pub fn turn(&mut self, alloc: Global, on: bool)
+    /// Switches dev mode on, with the files that are remembered, or off.
+    pub fn switch(&mut self, alloc: Global, on: bool)
         ensures on { is_some self.new.paths ≡ on }
-        ensures files { (name : Text) → path_in self.new.paths name ≡ cond on (path_in self.old.paths name) None }
+        ensures files { (name : Text) → source_path self.new.paths name ≡ cond on (source_path self.old.paths name) None }
     {
         if !on {
             self.paths = None;
@@ -41,9 +41,9 @@ impl DevFiles {
         }
     }
 
-    /// The path under a name, if one is remembered.
+    /// Returns the path under a name, if one is remembered.
     pub fn path(&self, name: &str) -> Option<&String>
-        ensures { option_map (λ s. string_bytes s.now) result ≡ path_in self.now.paths name.now }
+        ensures { option_map (λ s. string_bytes s.now) result ≡ source_path self.now.paths name.now }
     {
         match &self.paths {
             Some(paths) => paths.get(name),
@@ -51,17 +51,17 @@ impl DevFiles {
         }
     }
 
-    /// Remembers a path under a name in dev mode, and answers the one that stood there.
+    /// Remembers a path under a name in dev mode, and returns the one that it replaces.
     pub fn remember(
         &mut self,
         alloc: Global,
         name: &str,
         path: &str,
     ) -> Result<Option<String>, AllocError>
-        ensures before { IfOk result (λ before. option_map string_bytes before ≡ path_in self.old.paths name.now) }
-        ensures ok { OnOk result ((other : Text) → path_in self.new.paths other
-            ≡ path_put (is_some self.old.paths) name.now (Some path.now) (path_in self.old.paths) other) }
-        ensures err { OnErr result ((other : Text) → path_in self.new.paths other ≡ path_in self.old.paths other) }
+        ensures before { IfOk result (λ before. option_map string_bytes before ≡ source_path self.old.paths name.now) }
+        ensures ok { OnOk result ((other : Text) → source_path self.new.paths other
+            ≡ path_put (is_some self.old.paths) name.now (Some path.now) (source_path self.old.paths) other) }
+        ensures err { OnErr result ((other : Text) → source_path self.new.paths other ≡ source_path self.old.paths other) }
         ensures on { is_some self.new.paths ≡ is_some self.old.paths }
     {
         match &mut self.paths {
@@ -70,12 +70,12 @@ impl DevFiles {
         }
     }
 
-    /// Takes back what was remembered under a name last: what stood there before stands there again.
+    /// Undoes the last change under a name: what was remembered before is remembered again.
     pub fn take_back(&mut self, name: &str, before: Option<String>)
-        ensures back { is_some (path_in self.old.paths name.now) ≡ is_some self.old.paths → (other : Text)
-            → path_in self.new.paths other
+        ensures back { is_some (source_path self.old.paths name.now) ≡ is_some self.old.paths → (other : Text)
+            → source_path self.new.paths other
             ≡ path_put (is_some self.old.paths) name.now (option_map string_bytes before)
-            (path_in self.old.paths) other }
+            (source_path self.old.paths) other }
         ensures on { is_some self.new.paths ≡ is_some self.old.paths }
     {
         match before {
@@ -85,9 +85,9 @@ impl DevFiles {
     }
 
     fn put_back(&mut self, name: &str, path: String)
-        ensures back { is_some (path_in self.old.paths name.now) ≡ is_some self.old.paths → (other : Text)
-            → path_in self.new.paths other
-            ≡ path_put (is_some self.old.paths) name.now (Some (string_bytes path)) (path_in self.old.paths) other }
+        ensures back { is_some (source_path self.old.paths name.now) ≡ is_some self.old.paths → (other : Text)
+            → source_path self.new.paths other
+            ≡ path_put (is_some self.old.paths) name.now (Some (string_bytes path)) (source_path self.old.paths) other }
         ensures on { is_some self.new.paths ≡ is_some self.old.paths }
     {
         if let Some(paths) = &mut self.paths {
@@ -97,8 +97,8 @@ impl DevFiles {
 
     /// Forgets the file under a name.
     pub fn forget(&mut self, name: &str)
-        ensures gone { (other : Text) → path_in self.new.paths other
-            ≡ path_put (is_some self.old.paths) name.now None (path_in self.old.paths) other }
+        ensures gone { (other : Text) → source_path self.new.paths other
+            ≡ path_put (is_some self.old.paths) name.now None (source_path self.old.paths) other }
         ensures on { is_some self.new.paths ≡ is_some self.old.paths }
     {
         if let Some(paths) = &mut self.paths {
@@ -108,7 +108,7 @@ impl DevFiles {
 
     /// Forgets all files.
     pub fn forget_all(&mut self)
-        ensures none { (name : Text) → path_in self.new.paths name ≡ None }
+        ensures none { (name : Text) → source_path self.new.paths name ≡ None }
         ensures on { is_some self.new.paths ≡ is_some self.old.paths }
     {
         if let Some(paths) = &mut self.paths {
@@ -116,7 +116,7 @@ impl DevFiles {
         }
     }
 
-    /// The files are in order of the names, each name once.
+    /// Shows that the files are in order of the names, each name once.
     pub fn are_in_order(&self)
         ensures { IsByName (files_in self.now.paths) }
     {
@@ -125,7 +125,7 @@ impl DevFiles {
         }
     }
 
-    /// All paths, in order of the names.
+    /// Returns all paths, in order of the names.
     pub fn paths(&self) -> Option<&BTreeMap<String, String>>
         ensures { option_map (λ m. m.now) result ≡ self.now.paths }
     {
@@ -133,29 +133,29 @@ impl DevFiles {
     }
 }
 
-// Puts a path under a name, and answers the one that stood there.
+// Puts a path under a name, and returns the one that it replaces.
 fn put(
     alloc: Global,
     paths: &mut BTreeMap<String, String>,
     name: &str,
     path: &str,
 ) -> Result<Option<String>, AllocError>
-    ensures before { IfOk result (λ before. option_map string_bytes before ≡ path_in (Some paths.old) name.now) }
-    ensures ok { OnOk result ((other : Text) → path_in (Some paths.new) other
-        ≡ path_put true name.now (Some path.now) (path_in (Some paths.old)) other) }
-    ensures err { OnErr result ((other : Text) → path_in (Some paths.new) other ≡ path_in (Some paths.old) other) }
+    ensures before { IfOk result (λ before. option_map string_bytes before ≡ source_path (Some paths.old) name.now) }
+    ensures ok { OnOk result ((other : Text) → source_path (Some paths.new) other
+        ≡ path_put true name.now (Some path.now) (source_path (Some paths.old)) other) }
+    ensures err { OnErr result ((other : Text) → source_path (Some paths.new) other ≡ source_path (Some paths.old) other) }
 {
     let key = String::from_str(alloc, name)?;
     let value = String::from_str(alloc, path)?;
     Ok(paths.insert(key, value)?)
 }
 
-// Puts a path in the place of the one under a name.
+// Replaces the path under a name.
 fn replace(paths: &mut BTreeMap<String, String>, name: &str, path: String)
-    ensures { is_some (path_in (Some paths.old) name.now) ≡ true → (other : Text) → path_in (Some paths.new) other
-        ≡ path_put true name.now (Some (string_bytes path)) (path_in (Some paths.old)) other }
+    ensures { is_some (source_path (Some paths.old) name.now) ≡ true → (other : Text) → source_path (Some paths.new) other
+        ≡ path_put true name.now (Some (string_bytes path)) (source_path (Some paths.old)) other }
 {
-    if let Some(place) = paths.get_mut(name) {
-        *place = path;
+    if let Some(slot) = paths.get_mut(name) {
+        *slot = path;
     }
 }

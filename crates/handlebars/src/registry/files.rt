@@ -8,9 +8,9 @@ ghost use Rattle.handlebars_base.specs.Reasons.{template_out_of_memory};
 ghost use Rattle.handlebars_base.specs.TemplateRefusals.{template_refusal_of};
 ghost use Rattle.handlebars_template.specs.Tree.{Tree};
 ghost use Rattle.handlebars_template.specs.TreeView.{tree_view};
-ghost use Rattle.handlebars.specs.Files.{HasLoaded, HoldsKind, IsStopFor, LoadsFile, Stop, unread};
+ghost use Rattle.handlebars.specs.Files.{HasLoaded, HoldsKind, IsStopFor, LoadsFile, Stop, unreadable_file};
 ghost use Rattle.handlebars.specs.Folder.{IsInOrder, WalkedFolder, Registers, a_folder, an_entry};
-ghost use Rattle.handlebars.specs.Folder.{below_at, filter_of, entries_of, path_at, whole_folder};
+ghost use Rattle.handlebars.specs.Folder.{below_at, filter_of, entries_of, child_path, whole_folder};
 ghost use Rattle.handlebars.specs.View.{modes_of};
 
 use crate::registry::RegistryOf;
@@ -25,8 +25,13 @@ use std::io::ErrorKind;
 const FOLDER_LEVELS: u8 = 64;
 
 impl<E: Drop> RegistryOf<E> {
-    /// Reads a file, compiles its text and registers the tree under the name, in place of one that stood there. In dev
-    /// mode the file is remembered, and read anew at each rendering. Where it is refused, nothing is changed.
+    /// Reads a file, compiles its text and registers the tree under the name, and replaces the one that was registered
+    /// under it. In dev mode the file is remembered, and read anew at each rendering.
+    ///
+    /// # Errors
+    ///
+    /// Fails with the error of the file if it can't be read, with the error of its source if it doesn't compile, or
+    /// when memory runs out. Then nothing is changed.
     pub fn register_template_file<R: TemplateReader>(
         &mut self,
         name: &str,
@@ -38,16 +43,21 @@ impl<E: Drop> RegistryOf<E> {
             × HasLoaded (record { name = name.now; path = path.now; tree = t } ∷ []) self.old self.new) }
         ensures err { IfErr result (λ e. (why : Stop) × IsStopFor e why
             × LoadsFile R.reads (modes_of self.old).prevent_indent name.now path.now files.old (Err why) files.new) }
-        ensures kept { OnErr result (HasLoaded [] self.old self.new) }
+        ensures unchanged { OnErr result (HasLoaded [] self.old self.new) }
     {
         let template = self.read_template(name, path, files)?;
         self.register_file(name, path, template)?;
         Ok(())
     }
 
-    /// Registers the files of a folder and of the folders in it, each under its path below the folder, less the
-    /// extension. What a folder has is taken in byte order of name. A folder that can't be listed has nothing, and so
-    /// has one more than 64 levels below the given one. Where a file is refused, those before it stay registered.
+    /// Registers the files of a folder and of the folders in it, each under its path below the folder, without the
+    /// extension. The entries of a folder are taken in byte order of name. A folder that can't be listed counts as
+    /// empty, and so does one more than 64 levels below the given one.
+    ///
+    /// # Errors
+    ///
+    /// Fails with the error of the first file that can't be read or doesn't compile, or when memory runs out. The files
+    /// before it stay registered.
     pub fn register_templates_directory<R: TemplateReader>(
         &mut self,
         folder: &str,
@@ -60,25 +70,25 @@ impl<E: Drop> RegistryOf<E> {
         self.register_folder(&options, folder, "", FOLDER_LEVELS, files)
     }
 
-    // The files of a folder and of so many levels of folders below it. Before their names stands what leads to the
-    // folder.
+    // The files of a folder and of so many levels of folders below it. The path to the folder is the prefix of their
+    // names.
     #[cycle(folder)]
     fn register_folder<R: TemplateReader>(
         &mut self,
         options: &DirectorySourceOptions<'_>,
         folder: &str,
-        front: &str,
+        prefix: &str,
         levels: u8,
         files: &mut R,
     ) -> Result<(), TemplateError>
         ensures { Registers R.reads R.lists (filter_of options.now)
-            (a_folder (record { path = folder.now; front = front.now; levels = levels }))
+            (a_folder (record { path = folder.now; prefix = prefix.now; levels = levels }))
             self.old self.new files.old files.new result }
     {
         match files.list(folder) {
             Ok(listed) => {
                 let entries = in_order(listed)?;
-                self.register_entries(options, folder, front, levels, entries.as_slice(), files)
+                self.register_entries(options, folder, prefix, levels, entries.as_slice(), files)
             }
             Err(cause) => passed_over(&cause),
         }
@@ -90,17 +100,17 @@ impl<E: Drop> RegistryOf<E> {
         &mut self,
         options: &DirectorySourceOptions<'_>,
         folder: &str,
-        front: &str,
+        prefix: &str,
         levels: u8,
         entries: &[(String, EntryKind)],
         files: &mut R,
     ) -> Result<(), TemplateError>
         ensures { Registers R.reads R.lists (filter_of options.now)
-            (entries_of (record { path = folder.now; front = front.now; levels = levels }) entries.now)
+            (entries_of (record { path = folder.now; prefix = prefix.now; levels = levels }) entries.now)
             self.old self.new files.old files.new result }
     {
         'entries: for entry in entries {
-            self.register_entry(options, folder, front, levels, entry, files)?;
+            self.register_entry(options, folder, prefix, levels, entry, files)?;
         }
         Ok(())
     }
@@ -111,20 +121,20 @@ impl<E: Drop> RegistryOf<E> {
         &mut self,
         options: &DirectorySourceOptions<'_>,
         folder: &str,
-        front: &str,
+        prefix: &str,
         levels: u8,
         entry: &(String, EntryKind),
         files: &mut R,
     ) -> Result<(), TemplateError>
         ensures { Registers R.reads R.lists (filter_of options.now)
-            (an_entry (record { path = folder.now; front = front.now; levels = levels }) entry.now)
+            (an_entry (record { path = folder.now; prefix = prefix.now; levels = levels }) entry.now)
             self.old self.new files.old files.new result }
     {
         let alloc = self.alloc;
         let name = &entry.0;
-        let mut path = behind(alloc, folder, "/")?;
+        let mut path = after(alloc, folder, "/")?;
         path.push_str(name.as_str())?;
-        let below = behind(alloc, front, name.as_str())?;
+        let below = after(alloc, prefix, name.as_str())?;
         match entry.1 {
             EntryKind::File => {
                 self.register_found(options, path.as_str(), below.as_str(), name, files)
@@ -133,8 +143,8 @@ impl<E: Drop> RegistryOf<E> {
                 let Some(levels) = levels.checked_sub(1) else {
                     return Ok(());
                 };
-                let front = behind(alloc, below.as_str(), "/")?;
-                self.register_folder(options, path.as_str(), front.as_str(), levels, files)
+                let prefix = after(alloc, below.as_str(), "/")?;
+                self.register_folder(options, path.as_str(), prefix.as_str(), levels, files)
             }
         }
     }
@@ -148,7 +158,7 @@ impl<E: Drop> RegistryOf<E> {
         name: &String,
         files: &mut R,
     ) -> Result<(), TemplateError>
-        ensures { (p : WalkedFolder) → path.now ≡ path_at p (string_bytes name.now)
+        ensures { (p : WalkedFolder) → path.now ≡ child_path p (string_bytes name.now)
             → below.now ≡ below_at p (string_bytes name.now)
             → Registers R.reads R.lists (filter_of options.now) (an_entry p (name.now, EntryKind.File))
             self.old self.new files.old files.new result }
@@ -178,7 +188,7 @@ impl<E: Drop> RegistryOf<E> {
         }
     }
 
-    // Registers a file's tree, and remembers the file in dev mode. Where memory is refused, nothing is changed.
+    // Registers a file's tree, and remembers the file in dev mode. When memory runs out, nothing is changed.
     fn register_file(
         &mut self,
         name: &str,
@@ -188,7 +198,7 @@ impl<E: Drop> RegistryOf<E> {
         ensures ok { OnOk result (HasLoaded
             (record { name = name.now; path = path.now; tree = tree_view template } ∷ [])
             self.old self.new) }
-        ensures kept { OnErr result (HasLoaded [] self.old self.new) }
+        ensures unchanged { OnErr result (HasLoaded [] self.old self.new) }
     {
         let before = self.dev.remember(self.alloc, name, path)?;
         match self.register_template(name, template) {
@@ -201,10 +211,10 @@ impl<E: Drop> RegistryOf<E> {
     }
 }
 
-// Why a template has no tree whose file can't be read.
+// The error of a template whose file can't be read.
 fn unread(alloc: Global, name: &str, cause: io::Error) -> TemplateError
     ensures refusal { (template_refusal_of result).reason ≢ template_out_of_memory
-        → (template_refusal_of result ≡ unread name.now) × HoldsKind (error_kind cause) result
+        → (template_refusal_of result ≡ unreadable_file name.now) × HoldsKind (error_kind cause) result
         × (error_kind cause ≢ OutOfMemory) }
 {
     match cause.kind() {
@@ -216,7 +226,7 @@ fn unread(alloc: Global, name: &str, cause: io::Error) -> TemplateError
     }
 }
 
-// A folder that can't be listed has nothing, unless that was for memory.
+// A folder that can't be listed counts as empty, unless listing it ran out of memory.
 fn passed_over(cause: &io::Error) -> Result<(), TemplateError>
     ensures ok { OnOk result (error_kind cause.now ≢ OutOfMemory) }
     ensures err { IfErr result (λ e. (template_refusal_of e).reason ≡ template_out_of_memory) }
@@ -236,11 +246,11 @@ fn in_order(listed: Vec<(String, EntryKind)>) -> Result<Vec<(String, EntryKind)>
     Ok(entries)
 }
 
-// A text behind another.
-fn behind(alloc: Global, front: &str, text: &str) -> Result<String, AllocError>
-    ensures { IfOk result (λ s. string_bytes s ≡ front.now ++ text.now) }
+// A text after another.
+fn after(alloc: Global, prefix: &str, text: &str) -> Result<String, AllocError>
+    ensures { IfOk result (λ s. string_bytes s ≡ prefix.now ++ text.now) }
 {
-    let mut joined = String::from_str(alloc, front)?;
+    let mut joined = String::from_str(alloc, prefix)?;
     joined.push_str(text)?;
     Ok(joined)
 }

@@ -1,4 +1,4 @@
-//! Dev mode: templates of files are read anew at each rendering.
+//! Dev mode: the files of templates are read anew at each rendering.
 
 ghost use Rattle.std.specs.Prelude.{◌≡◌, ◌∷◌, [], IfOk, IfErr, OnOk, List, map};
 ghost use Rattle.std.specs.Prelude.{None, Some, Ok, Err, false, cond, option_map};
@@ -19,19 +19,20 @@ use std::alloc::{AllocError, Global};
 use std::collections::BTreeMap;
 
 impl<E: Drop> RegistryOf<E> {
-    /// From now on the files of templates that are registered are remembered, and read anew at each rendering, or they
-    /// are no more, and those that were are forgotten.
+    /// Enables or disables dev mode. If it is enabled, the files of templates that are registered from now on are
+    /// remembered, and read anew at each rendering. If it is disabled, no files are remembered, and those that were are
+    /// forgotten.
     pub fn set_dev_mode(&mut self, enabled: bool)
         ensures dev { is_dev self.new ≡ enabled }
         ensures files { (name : Text) → remembered_path self.new name ≡ cond enabled (remembered_path self.old name) None }
-        ensures kept { HasSameTemplates self.old self.new }
+        ensures unchanged { HasSameTemplates self.old self.new }
         ensures entries { self.new.entries ≡ self.old.entries }
         ensures modes { modes_of self.new ≡ modes_of self.old }
     {
-        self.dev.turn(self.alloc, enabled);
+        self.dev.switch(self.alloc, enabled);
     }
 
-    /// Whether dev mode is on.
+    /// Returns whether dev mode is on.
     pub fn dev_mode(&self) -> bool
         ensures { result ≡ is_dev self.now }
     {
@@ -46,7 +47,7 @@ impl<E: Drop> RegistryOf<E> {
     }
 
     // The trees of the files that are remembered, read anew: first that of the name that is asked for, then all others
-    // in order of name. Where nothing stands under that name, none is read.
+    // in order of name. If nothing is registered under that name, no file is read.
     fn read_files<R: TemplateReader>(
         &self,
         asked: Option<&str>,
@@ -69,7 +70,7 @@ impl<E: Drop> RegistryOf<E> {
         Ok(trees)
     }
 
-    // The trees of the files that are remembered, for a rendering, whose error tells why one was refused.
+    // The trees of the files that are remembered, for a rendering; the error reports why one failed.
     pub(crate) fn read_for<R: TemplateReader>(
         &self,
         asked: Option<&str>,
@@ -89,7 +90,7 @@ impl<E: Drop> RegistryOf<E> {
         }
     }
 
-    // Whether something stands under the name, if one is asked for.
+    // Whether a template is registered or a file is remembered under the name, if one is asked for.
     fn is_known(&self, asked: Option<&str>) -> bool
         ensures { result ≡ is_known self.now (option_map (λ s. s.now) asked.entry) }
     {

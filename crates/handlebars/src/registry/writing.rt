@@ -3,14 +3,14 @@
 ghost use Rattle.std.specs.Prelude.{◌≡◌, []};
 ghost use Rattle.handlebars_template.specs.TreeView.{tree_view};
 ghost use Rattle.handlebars_scope.specs.Contexts.{data_of};
-ghost use Rattle.handlebars_meaning.specs.Means.{render_tree};
+ghost use Rattle.handlebars_semantics.specs.Means.{render_tree};
 ghost use Rattle.handlebars_base.specs.declared.error.render_error.RenderError as declared;
 ghost use Rattle.handlebars_expand.specs.Boxed.{error_of};
-ghost use Rattle.handlebars_render.specs.View.{CarriesOut, first_moment};
+ghost use Rattle.handlebars_render.specs.View.{RefinesSteps, first_moment};
 ghost use Rattle.handlebars.specs.Calls.{BeginsWith, Writes, answer_by};
 ghost use Rattle.handlebars.specs.Files.{tree_in};
 ghost use Rattle.handlebars.specs.Over.{setting_with};
-ghost use Rattle.handlebars.specs.Taken.{TellsTaken};
+ghost use Rattle.handlebars.specs.Taken.{ReportsTaken};
 ghost use Rattle.handlebars.specs.Writers.{held_by};
 
 use crate::output::{Named, NamedOutput, WriteOutput};
@@ -18,12 +18,12 @@ use crate::registry::RegistryOf;
 use crate::render::logging::Logging;
 use handlebars_base::error::RenderError;
 use handlebars_base::output::Output;
-use handlebars_helpers::entries::OwnParts;
+use handlebars_helpers::entries::UserParts;
 use handlebars_render::boxed::BoxedError;
 use handlebars_render::context::RenderContext;
 use handlebars_render::entry::render_into;
 use handlebars_render::environment::outside;
-use handlebars_render::pieces::Spot;
+use handlebars_render::pieces::Location;
 use handlebars_scope::context::Context;
 use handlebars_scope::context::bases::Bases;
 use handlebars_template::template::Template;
@@ -32,26 +32,26 @@ use std::collections::BTreeMap;
 use std::io::Write;
 use std::marker::{Brand, PhantomData};
 
-// An error as it comes. Its type is a parameter where an output names its writer: a call there can't give an error
+// An error as it comes. Its type is a parameter where an output names its writer: a call there can't return an error
 // whose type holds a `&'static str`.
 trait PlainError: Drop {
-    ghost kept: { Self → declared.RenderError };
+    ghost plain_error: { Self → declared.RenderError };
 
     fn of(error: BoxedError) -> Self
-        ensures { kept result ≡ error_of error };
+        ensures { plain_error result ≡ error_of error };
 }
 
 impl PlainError for BoxedError {
-    ghost kept = { error_of };
+    ghost plain_error = { error_of };
 
     fn of(error: BoxedError) -> BoxedError {
         error
     }
 }
 
-/// Renders a template from the first state on, with the trees that were read in place of those of the registry under
+/// Renders a template from the first state on, with the trees that were read instead of those that are registered under
 /// the same names.
-pub(crate) fn write_template<E: OwnParts, L: Log, W: Write>(
+pub(crate) fn write_template<E: UserParts, L: Log, W: Write>(
     registry: &RegistryOf<E>,
     template: &Template,
     read: &BTreeMap<String, Template>,
@@ -59,11 +59,11 @@ pub(crate) fn write_template<E: OwnParts, L: Log, W: Write>(
     log: &L,
     writer: &mut W,
 ) -> Result<(), RenderError>
-    ensures { Writes (setting_with E.registered E.own (tree_in read.now) registry.now (data_of ctx.now))
+    ensures { Writes (setting_with E.registered E.user (tree_in read.now) registry.now (data_of ctx.now))
         (BeginsWith (tree_view template.now))
         (W.contents writer.old) (W.contents writer.new) result }
 {
-    registry.entries.keeps_law();
+    registry.entries.satisfies_law();
     let mut rc = registry.first_context(template.name.as_ref())?;
     let (answer, out) = render_named::<E, L, W, Brand, BoxedError>(
         registry,
@@ -82,8 +82,8 @@ pub(crate) fn write_template<E: OwnParts, L: Log, W: Write>(
     }
 }
 
-// The output that comes back is the one that was given, whatever the rendering does with it.
-fn render_named<'w, E: OwnParts, L: Log, W: Write, K: Named, X: PlainError>(
+// The output that is returned is the one that was passed, whatever the rendering does with it.
+fn render_named<'w, E: UserParts, L: Log, W: Write, K: Named, X: PlainError>(
     registry: &RegistryOf<E>,
     template: &Template,
     read: &BTreeMap<String, Template>,
@@ -96,39 +96,39 @@ fn render_named<'w, E: OwnParts, L: Log, W: Write, K: Named, X: PlainError>(
     requires first { W.contents out.writer.now ≡ K.first }
     requires empty { out.taken.text ≡ [] }
     ensures same { result.1.writer.ghost_name ≡ out.entry.writer.ghost_name }
-    ensures told { TellsTaken (W.contents out.entry.writer.now) result.1.taken.text (W.contents result.1.writer.now) }
-    ensures renders { CarriesOut (setting_with E.registered E.own (tree_in read.now) registry.now (data_of ctx.now))
+    ensures reported { ReportsTaken (W.contents out.entry.writer.now) result.1.taken.text (W.contents result.1.writer.now) }
+    ensures renders { RefinesSteps (setting_with E.registered E.user (tree_in read.now) registry.now (data_of ctx.now))
         (render_tree (tree_view template.now)) (λ _. Unit {0})
-        (first_moment rc.old (held_by out.entry)) (answer_by X.kept result.0) (first_moment rc.new (held_by result.1)) }
+        (first_moment rc.old (held_by out.entry)) (answer_by X.plain_error result.0) (first_moment rc.new (held_by result.1)) }
 {
     let WriteOutput {
         writer,
         taken,
-        faults,
+        write_errors,
     } = out;
     let mut named: NamedOutput<'w, W, K> = NamedOutput {
         writer,
         taken,
-        faults,
+        write_errors,
         of: PhantomData,
     };
     let answer = render_to(registry, template, read, ctx, log, rc, &mut named);
     let NamedOutput {
         writer,
         taken,
-        faults,
+        write_errors,
         of: _,
     } = named;
     let out = WriteOutput {
         writer,
         taken,
-        faults,
+        write_errors,
     };
     (answer, out)
 }
 
-// To any output.
-fn render_to<E: OwnParts, L: Log, O: Output, X: PlainError>(
+// Renders to any output.
+fn render_to<E: UserParts, L: Log, O: Output, X: PlainError>(
     registry: &RegistryOf<E>,
     template: &Template,
     read: &BTreeMap<String, Template>,
@@ -137,17 +137,17 @@ fn render_to<E: OwnParts, L: Log, O: Output, X: PlainError>(
     rc: &mut RenderContext,
     out: &mut O,
 ) -> Result<(), X>
-    ensures { CarriesOut (setting_with E.registered E.own (tree_in read.now) registry.now (data_of ctx.now))
+    ensures { RefinesSteps (setting_with E.registered E.user (tree_in read.now) registry.now (data_of ctx.now))
         (render_tree (tree_view template.now)) O.may_give
-        (first_moment rc.old (O.held out.old)) (answer_by X.kept result) (first_moment rc.new (O.held out.new)) }
+        (first_moment rc.old (O.held out.old)) (answer_by X.plain_error result) (first_moment rc.new (O.held out.new)) }
 {
     let parts = &Logging {
         registry,
         read,
         log,
     };
-    let spot = Spot::first();
-    let environment = outside(registry.alloc, parts, ctx, &Bases::Outside, &spot);
+    let location = Location::first();
+    let environment = outside(registry.alloc, parts, ctx, &Bases::Outside, &location);
     match render_into(template, &environment, rc, out) {
         Ok(()) => Ok(()),
         Err(error) => Err(X::of(error)),

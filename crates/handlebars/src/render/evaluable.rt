@@ -1,12 +1,12 @@
-//! Evaluating with a registry: carrying out decorators alone.
+//! Evaluating with a registry: executing decorators alone.
 
 ghost use Rattle.std.specs.Prelude.{◌≡◌, IsErrAnd, OnErr, OnOk, true, false};
 ghost use Rattle.handlebars_base.specs.Reasons.{Refusal, failed};
 ghost use Rattle.handlebars_base.specs.RenderRefusals.{refusal_of, plain_refusal};
 ghost use Rattle.handlebars_template.specs.Tree.{tree_name};
 ghost use Rattle.handlebars_template.specs.TreeView.{tree_view, element_view};
-ghost use Rattle.handlebars_meaning.specs.Evaluation.{eval_alone, eval_tree, renamed};
-ghost use Rattle.handlebars_meaning.specs.Steps.{Steps};
+ghost use Rattle.handlebars_semantics.specs.Evaluation.{eval_alone, eval_tree, renamed};
+ghost use Rattle.handlebars_semantics.specs.Steps.{Steps};
 ghost use Rattle.handlebars_render.specs.Silent.{Evals};
 ghost use Rattle.handlebars_expand.specs.View.{state_of, root_of, has_failed, without_partials};
 ghost use Rattle.handlebars.specs.View.{setting_of};
@@ -14,28 +14,32 @@ ghost use Rattle.handlebars.specs.View.{setting_of};
 use crate::registry::RegistryOf;
 use crate::render::logging::{Logging, NoTrees};
 use handlebars_base::error::RenderError;
-use handlebars_helpers::entries::OwnParts;
+use handlebars_helpers::entries::UserParts;
 use handlebars_render::context::RenderContext;
 use handlebars_render::environment::outside;
 use handlebars_render::evaluate::{eval_element, eval_tree};
 use handlebars_render::failure::{fail_after, ready};
-use handlebars_render::pieces::Spot;
+use handlebars_render::pieces::Location;
 use handlebars_scope::context::Context;
 use handlebars_scope::context::bases::Bases;
 use handlebars_template::template::{Template, TemplateElement};
 use log::Log;
 use std::alloc::Global;
 
-/// What can be evaluated: its decorators alone are carried out.
+/// What can be evaluated: only its decorators are executed.
 pub trait Evaluable {
-    // What that means, step by step, and what becomes of a refusal of it.
+    // The steps of that, and how an error of it is viewed.
     ghost steps: { Self → Steps };
 
     ghost seen: { Self → Refusal → Refusal };
 
-    /// Carries out the decorators, in order, and writes nothing. After a refusal the render context has failed:
-    /// it answers `Failed` from then on. What becomes of the error's place and name is said at each impl.
-    fn eval<E: OwnParts, L: Log>(
+    /// Executes the decorators, in order, and writes nothing.
+    ///
+    /// # Errors
+    ///
+    /// Fails with the error that the definition gives, or when memory runs out. Each impl documents the position and
+    /// the name of the error. The render context has failed then: later calls with it fail with `Failed`.
+    fn eval<E: UserParts, L: Log>(
         &self,
         alloc: Global,
         registry: &RegistryOf<E>,
@@ -44,7 +48,7 @@ pub trait Evaluable {
         log: &L,
     ) -> Result<(), RenderError>
         ensures evals { has_failed rc.old ≡ false
-            → Evals (setting_of E.registered E.own registry.now «data».now) (steps self.now)
+            → Evals (setting_of E.registered E.user registry.now «data».now) (steps self.now)
             (seen self.now) (state_of rc.old) result (state_of rc.new) }
         ensures failed { has_failed rc.old ≡ true
             → IsErrAnd result (λ e. refusal_of e ≡ plain_refusal failed) × (rc.new ≡ rc.old) }
@@ -56,14 +60,14 @@ pub trait Evaluable {
         ensures err { OnErr result (has_failed rc.new ≡ true) };
 }
 
-/// An error without a line takes the position of its element, where the tree has one; and the tree's name, or none, takes
-/// the place of the name in the error.
+/// An error without a position takes the position of its element, if the tree has one. The tree's name, or none,
+/// replaces the name in the error.
 impl Evaluable for Template {
     ghost steps = { λ t. eval_tree (tree_view t) };
 
     ghost seen = { λ t. renamed (tree_name (tree_view t)) };
 
-    fn eval<E: OwnParts, L: Log>(
+    fn eval<E: UserParts, L: Log>(
         &self,
         alloc: Global,
         registry: &RegistryOf<E>,
@@ -77,8 +81,8 @@ impl Evaluable for Template {
             read: &NoTrees,
             log,
         };
-        let spot = Spot::first();
-        let environment = outside(alloc, parts, data, &Bases::Outside, &spot);
+        let location = Location::first();
+        let environment = outside(alloc, parts, data, &Bases::Outside, &location);
         match eval_tree(self, &environment, rc) {
             Ok(()) => Ok(()),
             Err(e) => fail_after(rc, Err(e.into_error())),
@@ -86,14 +90,14 @@ impl Evaluable for Template {
     }
 }
 
-/// An element alone, which has neither a position nor a name to give: an error has what it brings itself, as that of a
-/// part of one's own may.
+/// An element alone has neither a position nor a name: an error has those that it comes with, as that of a user-defined
+/// part may.
 impl Evaluable for TemplateElement {
     ghost steps = { λ e. eval_alone (element_view e) };
 
     ghost seen = { λ e r. r };
 
-    fn eval<E: OwnParts, L: Log>(
+    fn eval<E: UserParts, L: Log>(
         &self,
         alloc: Global,
         registry: &RegistryOf<E>,
@@ -107,8 +111,8 @@ impl Evaluable for TemplateElement {
             read: &NoTrees,
             log,
         };
-        let spot = Spot::first();
-        let environment = outside(alloc, parts, data, &Bases::Outside, &spot);
+        let location = Location::first();
+        let environment = outside(alloc, parts, data, &Bases::Outside, &location);
         match eval_element(self, &environment, rc) {
             Ok(()) => Ok(()),
             Err(e) => fail_after(rc, Err(e.into_error())),

@@ -7,7 +7,7 @@ ghost use Rattle.handlebars_base.specs.Reasons.{failed};
 ghost use Rattle.handlebars_base.specs.RenderRefusals.{refusal_of, plain_refusal};
 ghost use Rattle.handlebars_template.specs.Tree.{Param};
 ghost use Rattle.handlebars_template.specs.TreeView.{param_view};
-ghost use Rattle.handlebars_meaning.specs.Values.{HasName, HasWrittenValue};
+ghost use Rattle.handlebars_semantics.specs.Values.{HasName, HasWrittenValue};
 ghost use Rattle.handlebars_expand.specs.View.{state_of, root_of, has_failed, Yields};
 ghost use Rattle.handlebars.specs.View.{setting_of};
 
@@ -15,11 +15,11 @@ use crate::registry::RegistryOf;
 use crate::render::logging::{Logging, NoTrees};
 use handlebars_base::error::RenderError;
 use handlebars_base::json::value::PathAndJson;
-use handlebars_helpers::entries::OwnParts;
+use handlebars_helpers::entries::UserParts;
 use handlebars_render::context::RenderContext;
 use handlebars_render::environment::outside;
 use handlebars_render::failure::{fail_after, ready};
-use handlebars_render::pieces::Spot;
+use handlebars_render::pieces::Location;
 use handlebars_render::value;
 use handlebars_scope::context::Context;
 use handlebars_scope::context::bases::Bases;
@@ -28,15 +28,15 @@ use log::Log;
 use std::alloc::Global;
 use std::borrow::CowStr;
 
-/// What has a value in a rendering. After a refusal the render context has failed: it answers
-/// `Failed` from then on. Nothing else of it is changed.
+/// What has a value in a rendering. After an error the render context has failed: later calls with it fail with
+/// `Failed`. Nothing else of it is changed.
 pub trait Expand {
-    // What it is, as definitions see it.
+    // The parameter, as the definitions view it.
     ghost param: { Self → Param };
 
-    /// The value, with its path as the template writes it, where it writes one. What the data or the
-    /// template owns is borrowed.
-    fn expand<'rc, E: OwnParts, L: Log>(
+    /// Returns the value, with its path as the template writes it, if it writes one. What the data or the template owns
+    /// is borrowed.
+    fn expand<'rc, E: UserParts, L: Log>(
         &'rc self,
         alloc: Global,
         registry: &RegistryOf<E>,
@@ -45,7 +45,7 @@ pub trait Expand {
         log: &L,
     ) -> Result<PathAndJson<'rc>, RenderError>
         ensures expands { has_failed rc.old ≡ false → Yields
-            (HasWrittenValue (setting_of E.registered E.own registry.now «data».now) (state_of rc.old) (param self.now))
+            (HasWrittenValue (setting_of E.registered E.user registry.now «data».now) (state_of rc.old) (param self.now))
             path_and_data result }
         ensures failed { has_failed rc.old ≡ true
             → IsErrAnd result (λ e. refusal_of e ≡ plain_refusal failed) × (rc.new ≡ rc.old) }
@@ -54,8 +54,8 @@ pub trait Expand {
         ensures ok { OnOk result (has_failed rc.new ≡ false) }
         ensures err { OnErr result (has_failed rc.new ≡ true) };
 
-    /// The text that a helper, a decorator or a partial is called by: as written, or of the value.
-    fn expand_as_name<'rc, E: OwnParts, L: Log>(
+    /// Returns the text that a helper, a decorator or a partial is called by: as written, or the text of the value.
+    fn expand_as_name<'rc, E: UserParts, L: Log>(
         &'rc self,
         alloc: Global,
         registry: &RegistryOf<E>,
@@ -64,7 +64,7 @@ pub trait Expand {
         log: &L,
     ) -> Result<CowStr<'rc>, RenderError>
         ensures expands { has_failed rc.old ≡ false → Yields
-            (HasName (setting_of E.registered E.own registry.now «data».now) (state_of rc.old) (param self.now))
+            (HasName (setting_of E.registered E.user registry.now «data».now) (state_of rc.old) (param self.now))
             cow_str_bytes result }
         ensures failed { has_failed rc.old ≡ true
             → IsErrAnd result (λ e. refusal_of e ≡ plain_refusal failed) × (rc.new ≡ rc.old) }
@@ -77,7 +77,7 @@ pub trait Expand {
 impl Expand for Parameter {
     ghost param = { param_view };
 
-    fn expand<'rc, E: OwnParts, L: Log>(
+    fn expand<'rc, E: UserParts, L: Log>(
         &'rc self,
         alloc: Global,
         registry: &RegistryOf<E>,
@@ -92,7 +92,7 @@ impl Expand for Parameter {
             log,
         };
         match value::expand(
-            &outside(alloc, parts, data, &Bases::Outside, &Spot::first()),
+            &outside(alloc, parts, data, &Bases::Outside, &Location::first()),
             rc,
             self,
         ) {
@@ -101,7 +101,7 @@ impl Expand for Parameter {
         }
     }
 
-    fn expand_as_name<'rc, E: OwnParts, L: Log>(
+    fn expand_as_name<'rc, E: UserParts, L: Log>(
         &'rc self,
         alloc: Global,
         registry: &RegistryOf<E>,
@@ -116,7 +116,7 @@ impl Expand for Parameter {
             log,
         };
         match value::expand_as_name(
-            &outside(alloc, parts, data, &Bases::Outside, &Spot::first()),
+            &outside(alloc, parts, data, &Bases::Outside, &Location::first()),
             rc,
             self,
         ) {

@@ -1,4 +1,4 @@
-//! What a run is given: a registry, trees that are laid over its own, and a logger.
+//! What a run is given: a registry, trees that are overlaid on those of the registry, and a logger.
 
 ghost use Rattle.std.specs.Prelude.{◌≡◌, Option, None, option_map};
 ghost use Rattle.handlebars_base.specs.Bytes.{Text};
@@ -11,9 +11,9 @@ use crate::registry::RegistryOf;
 use handlebars_base::error::RenderError;
 use handlebars_helpers::decorators::view::Decorator;
 use handlebars_helpers::decorators::{DecoratorKind, DecoratorResult};
-use handlebars_helpers::entries::OwnParts;
+use handlebars_helpers::entries::UserParts;
 use handlebars_helpers::escape::Escaping;
-use handlebars_helpers::own::{Callee, HelperResult, HelperValue};
+use handlebars_helpers::user::{Callee, HelperResult, HelperValue};
 use handlebars_helpers::view::Helper;
 use handlebars_render::registered::Registered;
 use handlebars_scope::context::Context;
@@ -21,7 +21,7 @@ use handlebars_template::template::Template;
 use log::{Level, Log, log};
 use std::collections::BTreeMap;
 
-/// Trees by name, in place of those of a registry under the same names.
+/// Trees by name, instead of those of a registry under the same names.
 pub trait Trees {
     ghost trees: { Self → Text → Option Tree };
 
@@ -49,7 +49,7 @@ impl Trees for NoTrees {
     }
 }
 
-/// A registry, the trees that are laid over its own, and the logger of a run.
+/// A registry, the trees that are overlaid on those of the registry, and the logger of a run.
 #[derive(Drop)]
 pub struct Logging<'r, E, T, L> {
     pub registry: &'r RegistryOf<E>,
@@ -57,8 +57,8 @@ pub struct Logging<'r, E, T, L> {
     pub log: &'r L,
 }
 
-impl<E: OwnParts, T: Trees, L: Log> Registered for Logging<'_, E, T, L> {
-    ghost parts = { λ x. parts_over E.registered E.own (T.trees x.read.now) x.registry.now };
+impl<E: UserParts, T: Trees, L: Log> Registered for Logging<'_, E, T, L> {
+    ghost parts = { λ x. parts_over E.registered E.user (T.trees x.read.now) x.registry.now };
 
     #[inline(always)]
     fn helper(&self, name: &str) -> Option<Callee> {
@@ -95,7 +95,7 @@ impl<E: OwnParts, T: Trees, L: Log> Registered for Logging<'_, E, T, L> {
         self.registry.entries.decorator(name)
     }
 
-    fn deeds_of(
+    fn actions_of(
         &self,
         name: &str,
         tag: &Decorator,
@@ -105,7 +105,7 @@ impl<E: OwnParts, T: Trees, L: Log> Registered for Logging<'_, E, T, L> {
         let strict = self.registry.strict_mode();
         self.registry
             .entries
-            .deeds_of(name, tag, given, changed, strict)
+            .actions_of(name, tag, given, changed, strict)
     }
 
     fn escape(&self) -> Escaping {
@@ -136,7 +136,7 @@ impl<E: OwnParts, T: Trees, L: Log> Registered for Logging<'_, E, T, L> {
         log!(self.log; level, "{text}");
     }
 
-    fn keeps_law(&self) {
-        self.registry.entries.keeps_law();
+    fn satisfies_law(&self) {
+        self.registry.entries.satisfies_law();
     }
 }

@@ -1,36 +1,36 @@
-//! Rendering a tree with others laid over those of a registry.
+//! Rendering a tree with others overlaid on those of a registry.
 
 ghost use Rattle.std.specs.Prelude.{◌≡◌, ◌≢◌, IfOk, IfErr, IsErrAnd, OnErr, OnOk, string_bytes, true, false};
 ghost use Rattle.handlebars_base.specs.Reasons.{out_of_memory, failed};
 ghost use Rattle.handlebars_base.specs.RenderRefusals.{refusal_of, plain_refusal, reason_in};
 ghost use Rattle.handlebars_template.specs.TreeView.{tree_view};
 ghost use Rattle.handlebars_scope.specs.Contexts.{data_of};
-ghost use Rattle.handlebars_meaning.specs.Means.{render_tree};
+ghost use Rattle.handlebars_semantics.specs.Means.{render_tree};
 ghost use Rattle.handlebars_expand.specs.View.{state_of, root_of, has_failed};
 ghost use Rattle.handlebars_render.specs.View.{first_moment};
 ghost use Rattle.handlebars_expand.specs.View.{without_partials};
-ghost use Rattle.handlebars_render.specs.View.{CarriesOut, GivesString, RefusesString};
+ghost use Rattle.handlebars_render.specs.View.{RefinesSteps, GivesString, StringFails};
 ghost use Rattle.handlebars.specs.Over.{setting_with};
 
 use crate::registry::RegistryOf;
 use crate::render::logging::{Logging, Trees};
 use handlebars_base::error::RenderError;
 use handlebars_base::output::{Output, StringOutput};
-use handlebars_helpers::entries::OwnParts;
+use handlebars_helpers::entries::UserParts;
 use handlebars_render::context::RenderContext;
 use handlebars_render::entry::render_into;
 use handlebars_render::environment::outside;
 use handlebars_render::failure::{fail_after, ready};
-use handlebars_render::pieces::Spot;
+use handlebars_render::pieces::Location;
 use handlebars_scope::context::Context;
 use handlebars_scope::context::bases::Bases;
 use handlebars_template::template::Template;
 use log::Log;
 use std::alloc::Global;
 
-/// Renders a tree into an output, as `Renderable::render` does, with these trees in place of those of the registry under
-/// the same names.
-pub fn render_over<E: OwnParts, T: Trees, L: Log, O: Output>(
+/// Renders a tree into an output, as `Renderable::render` does, with these trees instead of those that are registered
+/// under the same names.
+pub fn render_over<E: UserParts, T: Trees, L: Log, O: Output>(
     template: &Template,
     alloc: Global,
     registry: &RegistryOf<E>,
@@ -41,7 +41,7 @@ pub fn render_over<E: OwnParts, T: Trees, L: Log, O: Output>(
     log: &L,
 ) -> Result<(), RenderError>
     ensures renders { has_failed rc.old ≡ false
-        → CarriesOut (setting_with E.registered E.own (T.trees read.now) registry.now (data_of «data».now))
+        → RefinesSteps (setting_with E.registered E.user (T.trees read.now) registry.now (data_of «data».now))
         (render_tree (tree_view template.now)) O.may_give (first_moment rc.old (O.held out.old)) result
         (first_moment rc.new (O.held out.new)) }
     ensures failed { has_failed rc.old ≡ true → IsErrAnd result (λ e. refusal_of e ≡ plain_refusal failed)
@@ -59,16 +59,16 @@ pub fn render_over<E: OwnParts, T: Trees, L: Log, O: Output>(
         read,
         log,
     };
-    let spot = Spot::first();
-    let environment = outside(alloc, parts, data, &Bases::Outside, &spot);
+    let location = Location::first();
+    let environment = outside(alloc, parts, data, &Bases::Outside, &location);
     match render_into(template, &environment, rc, out) {
         Ok(()) => Ok(()),
         Err(e) => fail_after(rc, Err(e.into_error())),
     }
 }
 
-/// Into a text.
-pub fn renders_over<E: OwnParts, T: Trees, L: Log>(
+/// Renders a tree as `render_over` does, and returns the text.
+pub fn renders_over<E: UserParts, T: Trees, L: Log>(
     template: &Template,
     alloc: Global,
     registry: &RegistryOf<E>,
@@ -78,11 +78,11 @@ pub fn renders_over<E: OwnParts, T: Trees, L: Log>(
     log: &L,
 ) -> Result<String, RenderError>
     ensures ok { IfOk result (λ text. (has_failed rc.old ≡ false)
-        × GivesString (setting_with E.registered E.own (T.trees read.now) registry.now (data_of «data».now))
+        × GivesString (setting_with E.registered E.user (T.trees read.now) registry.now (data_of «data».now))
         (render_tree (tree_view template.now))
         (state_of rc.old) (state_of rc.new) (string_bytes text)) }
     ensures err { IfErr result (λ e. has_failed rc.old ≡ false → reason_in e ≢ out_of_memory
-        → RefusesString (setting_with E.registered E.own (T.trees read.now) registry.now (data_of «data».now))
+        → StringFails (setting_with E.registered E.user (T.trees read.now) registry.now (data_of «data».now))
         (render_tree (tree_view template.now))
         (state_of rc.old) (refusal_of e)) }
 {

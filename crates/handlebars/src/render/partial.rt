@@ -1,15 +1,15 @@
-//! Inclusions, for callers.
+//! Partials, for callers.
 
 ghost use Rattle.std.specs.Prelude.{◌≡◌, IsErrAnd, OnErr, OnOk, true, false};
 ghost use Rattle.handlebars_base.specs.Reasons.{failed};
 ghost use Rattle.handlebars_base.specs.RenderRefusals.{refusal_of, plain_refusal};
 ghost use Rattle.handlebars_helpers.specs.DecoratorsView.{tag_view};
-ghost use Rattle.handlebars_meaning.specs.Including.{include};
-ghost use Rattle.handlebars_meaning.specs.Sites.{Site};
-ghost use Rattle.handlebars_meaning.specs.Steps.{run};
+ghost use Rattle.handlebars_semantics.specs.Including.{include};
+ghost use Rattle.handlebars_semantics.specs.Occurrences.{Occurrence};
+ghost use Rattle.handlebars_semantics.specs.Steps.{run};
 ghost use Rattle.handlebars_expand.specs.View.{state_of, root_of, has_failed};
 ghost use Rattle.handlebars_expand.specs.View.{without_partials};
-ghost use Rattle.handlebars_render.specs.View.{first_moment, CarriesOut};
+ghost use Rattle.handlebars_render.specs.View.{first_moment, RefinesSteps};
 ghost use Rattle.handlebars.specs.View.{setting_of};
 
 use crate::registry::RegistryOf;
@@ -17,20 +17,25 @@ use crate::render::logging::{Logging, NoTrees};
 use handlebars_base::error::RenderError;
 use handlebars_base::output::Output;
 use handlebars_helpers::decorators::view::Decorator;
-use handlebars_helpers::entries::OwnParts;
+use handlebars_helpers::entries::UserParts;
 use handlebars_render::context::RenderContext;
 use handlebars_render::entry::include_into;
 use handlebars_render::environment::outside;
 use handlebars_render::failure::{fail_after, ready};
-use handlebars_render::pieces::Spot;
+use handlebars_render::pieces::Location;
 use handlebars_scope::context::Context;
 use handlebars_scope::context::bases::Bases;
 use log::Log;
 use std::alloc::Global;
 
-/// Renders what a tag of this view includes into an output: what is found by its name, under the view's indentation.
-/// After a refusal the render context has failed: it answers `Failed` from then on, and nothing more is written.
-pub fn expand_partial<E: OwnParts, L: Log, O: Output>(
+/// Renders the partial that a tag of this view includes into an output: the template that is found by its name, under
+/// the view's indentation.
+///
+/// # Errors
+///
+/// Fails with the error that the definition gives, with a write error of the output, or when memory runs out. The
+/// render context has failed then: later calls with it fail with `Failed` and write nothing.
+pub fn expand_partial<E: UserParts, L: Log, O: Output>(
     alloc: Global,
     d: &Decorator,
     registry: &RegistryOf<E>,
@@ -39,8 +44,8 @@ pub fn expand_partial<E: OwnParts, L: Log, O: Output>(
     out: &mut O,
     log: &L,
 ) -> Result<(), RenderError>
-    ensures includes { (site : Site) → has_failed rc.old ≡ false
-        → CarriesOut (setting_of E.registered E.own registry.now «data».now) (run (include site (tag_view d.now)))
+    ensures includes { (occurrence : Occurrence) → has_failed rc.old ≡ false
+        → RefinesSteps (setting_of E.registered E.user registry.now «data».now) (run (include occurrence (tag_view d.now)))
         O.may_give (first_moment rc.old (O.held out.old)) result (first_moment rc.new (O.held out.new)) }
     ensures failed { has_failed rc.old ≡ true → IsErrAnd result (λ e. refusal_of e ≡ plain_refusal failed)
         × (rc.new ≡ rc.old) × (O.held out.new ≡ O.held out.old) }
@@ -57,8 +62,8 @@ pub fn expand_partial<E: OwnParts, L: Log, O: Output>(
         read: &NoTrees,
         log,
     };
-    let spot = Spot::first();
-    let environment = outside(alloc, parts, data, &Bases::Outside, &spot);
+    let location = Location::first();
+    let environment = outside(alloc, parts, data, &Bases::Outside, &location);
     match include_into(d, &environment, rc, out) {
         Ok(()) => Ok(()),
         Err(e) => fail_after(rc, Err(e.into_error())),

@@ -9,8 +9,8 @@ use std::io::ErrorKind;
 use std::rt::Files;
 use std::{fs, io};
 
-/// Reads files and folders of the system. A link is a file; an entry that the system refuses to tell of, but for
-/// memory, is left out.
+/// Reads files and folders of the system. A link is a file. An entry that the system can't describe is left out, unless
+/// memory ran out.
 #[derive(Drop)]
 pub struct FileReader<'a, R> {
     rt: &'a R,
@@ -18,7 +18,7 @@ pub struct FileReader<'a, R> {
 }
 
 impl<'a, R> FileReader<'a, R> {
-    /// Asks for no file yet.
+    /// Creates a reader. Reads no file yet.
     pub fn new(rt: &'a R, alloc: Global) -> FileReader<'a, R>
         ensures { result ≡ record { rt = rt.entry; alloc = alloc } }
     {

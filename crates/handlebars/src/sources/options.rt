@@ -3,8 +3,8 @@
 ghost use Rattle.std.specs.Prelude.{◌≡◌, codes, false};
 ghost use Rattle.handlebars.specs.Folder.{filter_of, has_end, has_first, is_taken, name_in};
 
-/// Which files of a folder are taken for templates: those whose path ends in `tpl_extension`, and those whose own name
-/// begins with `.` or with `#` only where `hidden` or `temporary` says so.
+/// Selects which files of a folder are templates: those whose path ends in `tpl_extension`. Files whose own name begins
+/// with `.` or with `#` are taken only if `hidden` or `temporary` is set.
 #[derive(Clone, Copy, Debug)]
 pub struct DirectorySourceOptions<'a> {
     pub tpl_extension: &'a str,

@@ -1,4 +1,4 @@
-//! Why a rendering, a registration or a reading is refused, and where.
+//! Why a rendering, a registration or a read fails, and where.
 
 ghost use Rattle.std.specs.Prelude.{◌≡◌, ◌≢◌, Some, None, option_map, string_bytes, IfOk, IfSome};
 ghost use Rattle.std.specs.IoError.{error_kind};
@@ -11,7 +11,7 @@ use std::string::FromUtf8Error;
 use std::{fmt, io};
 use thiserror::Error;
 
-/// Why a rendering, a registration or a reading is refused.
+/// The reason why a rendering, a registration or a read fails.
 #[derive(Debug, Drop, Error)]
 pub enum RenderErrorReason {
     #[error("Template not found {0}")]
@@ -30,10 +30,10 @@ pub enum RenderErrorReason {
     ParamNotFoundForIndex(&'static str, usize),
     #[error("Helper/Decorator {0} param with name {1} required but not found")]
     ParamNotFoundForName(&'static str, String),
-    /// Kept for callers: the engine never makes it.
+    /// For callers: the engine never creates it.
     #[error("Helper/Decorator {0} param with name {1} type mismatch for {2}")]
     ParamTypeMismatchForName(&'static str, String, String),
-    /// Kept for callers: the engine never makes it.
+    /// For callers: the engine never creates it.
     #[error("Helper/Decorator {0} hash with name {1} type mismatch for {2}")]
     HashTypeMismatchForName(&'static str, String, String),
     #[error("Decorator not found {0}")]
@@ -54,13 +54,13 @@ pub enum RenderErrorReason {
     SerdeError(serde_json::Error),
     #[error("IO Error: {0}")]
     IOError(io::Error),
-    /// Kept for callers: the engine never makes it.
+    /// For callers: the engine never creates it.
     #[error("FromUtf8Error: {0}")]
     Utf8Error(FromUtf8Error),
-    /// Kept for callers: the engine never makes it.
+    /// For callers: the engine never creates it.
     #[error("Nested error: {0}")]
     NestedError(String),
-    /// Kept for callers: the engine never makes it.
+    /// For callers: the engine never creates it.
     #[error("Unimplemented")]
     Unimplemented,
     #[error("{0}")]
@@ -102,8 +102,7 @@ impl RenderErrorReason {
     }
 }
 
-/// A refusal: why, in which template, and at which line and column, counted from 1, columns in
-/// characters.
+/// An error: its reason, its template, and its line and column, which are 1-based. Columns count characters.
 #[derive(Debug)]
 pub struct RenderError {
     pub template_name: Option<String>,
@@ -112,7 +111,7 @@ pub struct RenderError {
     reason: RenderErrorReason,
 }
 
-// By hand, so that each place that lets an error go is one call.
+// Not derived, so that each drop of one is a single call.
 impl Drop for RenderError {
     fn drop(self) {
         let RenderError {
@@ -125,10 +124,10 @@ impl Drop for RenderError {
 }
 
 impl RenderError {
-    ghost use Rattle.handlebars_base.specs.RenderRefusals.{reason_of, reason_in, cause_of, plain_refusal, refusal_of, spot_of, name_if_none, place_if_none};
+    ghost use Rattle.handlebars_base.specs.RenderRefusals.{reason_of, reason_in, cause_of, plain_refusal, refusal_of, location_of, name_if_none, position_if_none};
 
-    /// A refusal of a caller's own, `Other` of the text. Where the text finds no memory, the reason
-    /// says so.
+    /// Creates a user-defined error, with the reason `Other` of the text. If there is no memory for the text, the reason
+    /// is `OutOfMemory`.
     pub fn new(alloc: Global, text: &str) -> RenderError
         ensures plain { refusal_of result ≡ plain_refusal (reason_in result) }
         ensures reason { reason_in result ≢ out_of_memory → reason_in result ≡ other text.now }
@@ -136,7 +135,8 @@ impl RenderError {
         RenderErrorReason::of_text(alloc, text).into()
     }
 
-    /// `MissingVariable` of the text. Where a copy of it finds no memory, the reason says so.
+    /// Creates an error with the reason `MissingVariable` of the path. If there is no memory for a copy of it, the reason
+    /// is `OutOfMemory`.
     pub fn strict_error(alloc: Global, path: Option<&String>) -> RenderError
         ensures plain { refusal_of result ≡ plain_refusal (reason_in result) }
         ensures reason { reason_in result ≢ out_of_memory
@@ -145,8 +145,8 @@ impl RenderError {
         RenderErrorReason::of_variable(alloc, path).into()
     }
 
-    /// `NestedError` of the cause's text; `info` is not kept. Where the text finds no memory, the
-    /// reason says so.
+    /// Creates an error with the reason `NestedError` of the cause's text. `info` is ignored. If there is no memory for
+    /// the text, the reason is `OutOfMemory`.
     pub fn from_error<E: fmt::Display>(alloc: Global, _info: &str, cause: &E) -> RenderError
         ensures plain { refusal_of result ≡ plain_refusal (reason_in result) }
         ensures reason { reason_in result ≢ out_of_memory → (text : Text) × (reason_in result ≡ nested_error text) }
@@ -155,7 +155,7 @@ impl RenderError {
         RenderErrorReason::of_cause(alloc, cause).into()
     }
 
-    /// Why.
+    /// Returns the reason.
     pub fn reason(&self) -> &RenderErrorReason
         ensures reason { reason_of result.now ≡ reason_in self.now }
         ensures cause { result.now ≡ cause_of self.now }
@@ -163,9 +163,9 @@ impl RenderError {
         &self.reason
     }
 
-    /// With the position of an element, where no line is known yet.
+    /// Sets the position of an element, if no line is known yet.
     pub fn at(self, line: usize, column: usize) -> RenderError
-        ensures placed { spot_of result ≡ place_if_none line column (spot_of self) }
+        ensures positioned { location_of result ≡ position_if_none line column (location_of self) }
         ensures cause { cause_of result ≡ cause_of self }
     {
         if self.line_no.is_some() {
@@ -177,11 +177,11 @@ impl RenderError {
         error
     }
 
-    /// With the name of a template, where none is known yet. Where a copy of it finds no memory,
-    /// the reason says so.
+    /// Sets the name of a template, if none is known yet. If there is no memory for a copy of it, the reason becomes
+    /// `OutOfMemory`.
     pub fn in_template(self, alloc: Global, name: &String) -> RenderError
         ensures named { reason_in result ≢ out_of_memory
-            → spot_of result ≡ name_if_none (string_bytes name.now) (spot_of self) }
+            → location_of result ≡ name_if_none (string_bytes name.now) (location_of self) }
         ensures cause { reason_in result ≢ out_of_memory → cause_of result ≡ cause_of self }
         ensures memory { reason_in self ≡ out_of_memory → reason_in result ≡ out_of_memory }
     {
@@ -211,8 +211,8 @@ impl RenderError {
     }
 }
 
-/// With line and column, the name (`Unnamed template` where there is none), the position and the
-/// reason; else the reason alone.
+/// Writes the name (`Unnamed template` if there is none), the position and the reason, if line and column are known;
+/// otherwise the reason alone.
 impl fmt::Display for RenderError {
     fn fmt<W: fmt::Write>(&self, f: &mut fmt::Formatter<W>) -> fmt::Result {
         let reason = &self.reason;
@@ -252,7 +252,7 @@ impl From<RenderErrorReason> for RenderError {
     }
 }
 
-/// The reason, or want of memory where its text found none.
+/// Converts the reason, or `OutOfMemory` if there was no memory for its text.
 impl From<Result<RenderErrorReason, AllocError>> for RenderError {
     ghost use Rattle.handlebars_base.specs.RenderRefusals.{reason_or_memory, cause_of, plain_refusal, refusal_of};
 
@@ -278,7 +278,7 @@ impl From<TemplateError> for RenderError {
     fn from(cause: TemplateError) -> RenderError
         ensures refusal { refusal_of result ≡ plain_refusal (of_template (template_refusal_of cause)) }
 
-        // Want of memory isn't wrapped.
+        // Out of memory isn't wrapped.
         ensures memory { reason_in result ≡ out_of_memory → refusal_within (cause_of result) ≡ None }
         ensures cause { reason_in result ≢ out_of_memory → cause_of result ≡ RenderErrorReason.TemplateError cause }
     {
@@ -360,7 +360,7 @@ impl From<TemplateError> for RenderErrorReason {
     fn from(cause: TemplateError) -> RenderErrorReason
         ensures reason { reason_of result ≡ of_template (template_refusal_of cause) }
 
-        // Want of memory isn't wrapped.
+        // Out of memory isn't wrapped.
         ensures memory { reason_of result ≡ out_of_memory → refusal_within result ≡ None }
         ensures cause { reason_of result ≢ out_of_memory → result ≡ RenderErrorReason.TemplateError cause }
     {

@@ -1,4 +1,4 @@
-//! Why a template has no tree, and where.
+//! Why a template is rejected, and where.
 
 ghost use Rattle.std.specs.Prelude.{◌≡◌, ◌≢◌, Some, None, IsSome, option_map, string_bytes};
 ghost use Rattle.handlebars_base.specs.Reasons.{template_out_of_memory, template_io_error};
@@ -8,7 +8,7 @@ use std::fmt::Write;
 use std::{fmt, io};
 use thiserror::Error;
 
-/// Why a template has no tree.
+/// The reason why a template is rejected.
 #[derive(Debug, Drop, Error)]
 pub enum TemplateErrorReason {
     /// The names of the block that was opened, and of the tag that closes it.
@@ -20,24 +20,24 @@ pub enum TemplateErrorReason {
     /// What is wrong with the source.
     #[error("invalid handlebars syntax: {0}")]
     InvalidSyntax(String),
-    /// The text that is no parameter.
+    /// The text that isn't a parameter.
     #[error("invalid parameter {0:?}")]
     InvalidParam(String),
-    /// Kept for callers: the engine never makes it.
+    /// For callers: the engine never creates it.
     #[error("nested subexpression is not supported")]
     NestedSubexpression,
     /// A file could not be read; the text is the template's name.
     #[error("Template \"{1}\": {0}")]
     IoError(io::Error, String),
-    /// Kept for callers: the engine never makes it.
+    /// For callers: the engine never creates it.
     #[error("Walk dir error: {0}")]
     WalkdirError(String),
     #[error("Out of memory")]
     OutOfMemory,
 }
 
-/// Why a template has no tree, in which template, and where: line and column count from 1, columns
-/// in characters.
+/// An error of a template: its reason, the template's name, and its line and column, which are 1-based. Columns count
+/// characters.
 #[derive(Debug)]
 pub struct TemplateError {
     reason: TemplateErrorReason,
@@ -47,7 +47,7 @@ pub struct TemplateError {
     segment: Option<String>,
 }
 
-// By hand, so that each place that lets an error go is one call.
+// Not derived, so that each drop of one is a single call.
 impl Drop for TemplateError {
     fn drop(self) {
         let TemplateError {
@@ -63,7 +63,7 @@ impl Drop for TemplateError {
 impl TemplateError {
     ghost use Rattle.handlebars_base.specs.TemplateRefusals.{template_reason_of, template_cause_of, template_refusal_of, shown_lines};
 
-    /// An error with no name and no position.
+    /// Creates an error with no name and no position.
     pub fn of(reason: TemplateErrorReason) -> TemplateError
         ensures refusal { template_refusal_of result ≡ record { reason = template_reason_of reason; name = None; position = None } }
         ensures cause { template_cause_of result ≡ reason }
@@ -78,8 +78,8 @@ impl TemplateError {
         }
     }
 
-    /// With a position, and the lines of the source around it. Where these find no memory, the
-    /// reason says so, and the error has no position and no name.
+    /// Sets the position, and the lines of the source around it. If there is no memory for these lines, the reason becomes
+    /// `OutOfMemory`, and the error has no position and no name.
     pub fn at(self, alloc: Global, source: &str, line_no: usize, column_no: usize) -> TemplateError
         ensures at { (template_refusal_of result).reason ≢ template_out_of_memory
             → template_refusal_of result ≡ record (template_refusal_of self) { position = Some (line_no, column_no) } }
@@ -101,7 +101,7 @@ impl TemplateError {
         }
     }
 
-    /// With the name of its template.
+    /// Sets the name of its template.
     pub fn in_template(self, name: String) -> TemplateError
         ensures named { template_refusal_of result ≡ record (template_refusal_of self) { name = Some (string_bytes name) } }
         ensures cause { template_cause_of result ≡ template_cause_of self }
@@ -112,6 +112,7 @@ impl TemplateError {
         error
     }
 
+    /// Returns the reason.
     pub fn reason(&self) -> &TemplateErrorReason
         ensures reason { template_reason_of result.now ≡ (template_refusal_of self.now).reason }
         ensures cause { result.now ≡ template_cause_of self.now }
@@ -119,7 +120,7 @@ impl TemplateError {
         &self.reason
     }
 
-    /// Line and column, where there are both.
+    /// Returns line and column, if both are known.
     pub fn pos(&self) -> Option<(usize, usize)>
         ensures { result ≡ (template_refusal_of self.now).position }
     {
@@ -129,7 +130,7 @@ impl TemplateError {
         }
     }
 
-    /// The name of the template, where it has one.
+    /// Returns the name of the template, if it has one.
     pub fn name(&self) -> Option<&String>
         ensures { option_map (λ s. string_bytes s.now) result ≡ (template_refusal_of self.now).name }
     {
@@ -161,8 +162,8 @@ impl From<AllocError> for TemplateError {
     }
 }
 
-// The lines from three before to three after the position, numbered from 0, with a marker below
-// the line of the position.
+// Returns the lines from three before to three after the position, numbered from 0, with a marker below the line of the
+// position.
 fn template_segment(
     alloc: Global,
     source: &str,
@@ -183,7 +184,7 @@ fn template_segment(
     Ok(out)
 }
 
-// One of these lines, with the marker if it is that of the position.
+// Writes one of these lines, with the marker if it is the line of the position.
 fn push_line(
     out: &mut String,
     number: usize,
@@ -198,19 +199,19 @@ fn push_line(
     Ok(())
 }
 
-// A sign for each byte of the line, `^` for that of the column.
+// Writes one character for each byte of the line, `^` for the byte at the column.
 fn mark(out: &mut String, content: &str, column: usize) -> Result<(), AllocError> {
     let before = column.min(content.len());
     write!(out, "     |{:-<before$}", "")?;
     if column < content.len() {
-        let behind = content.len() - column - 1;
-        write!(out, "^{:-<behind$}", "")?;
+        let after = content.len() - column - 1;
+        write!(out, "^{:-<after$}", "")?;
     }
     out.push('\n')
 }
 
-/// With a position, the reason, the name (`Unnamed template` where there is none), and the lines
-/// around the position; else the reason alone.
+/// Writes the reason, the name (`Unnamed template` if there is none) and the lines around the position, if the position
+/// is known; otherwise the reason alone.
 impl fmt::Display for TemplateError {
     fn fmt<W: fmt::Write>(&self, f: &mut fmt::Formatter<W>) -> fmt::Result {
         let reason = &self.reason;

@@ -1,4 +1,4 @@
-//! Paths into the data, as templates write them: `@root` and links from there, a variable of a block behind `@`, or
+//! Paths into the data, as templates write them: `@root` and links from there, a variable of a block after `@`, or
 //! names, names in brackets and `..`, joined by `/` or `.`.
 
 ghost use Rattle.std.specs.Prelude.{◌≡◌, ◌≢◌, ◌↔◌, IfOk, IfErr, IfSome, IsNone};
@@ -10,46 +10,50 @@ ghost use Rattle.handlebars_base.specs.RenderRefusals.{reason_in, refusal_of, pl
 use crate::error::{RenderError, RenderErrorReason};
 use std::alloc::{AllocError, Global};
 
-mod front;
 mod links;
 pub mod marks;
+mod prefix;
 mod start;
 
-pub use front::{PathFront, PathSlice, read_front, split_path};
+pub use prefix::{PathPrefix, PathToken, read_prefix, split_path};
 
-/// A segment that is no name.
+/// A segment that isn't a name.
 #[derive(Clone, Copy, Debug, PartialEq, Eq)]
 pub enum PathRule {
     /// `@root`, the whole data.
     Root,
-    /// The block that the path stands in. No text is read as this one.
+    /// The block in which the path occurs. No text is parsed as this segment.
     Local,
-    /// `..`, the block around.
+    /// `..`, the enclosing block.
     Up,
 }
 
-/// One link through the data. The name `this` stays where it is, so it makes no segment.
+/// One step through the data. The name `this` leads nowhere else, so it makes no segment.
 #[derive(Debug, Drop, PartialEq, Eq)]
 pub enum PathSeg {
     Named(String),
     Ruled(PathRule),
 }
 
-/// A path, with its text as written in the last place.
+/// A path. The last field of each variant is the text as written.
 #[derive(Debug, Drop, PartialEq, Eq)]
 pub enum Path {
-    /// The way through the data.
+    /// The segments of a path through the data.
     Relative((Vec<PathSeg>, String)),
-    /// A variable of a block: how many blocks up, and its name.
+    /// A variable of a block: the number of blocks up, and its name.
     Local((usize, String, String)),
 }
 
 impl Path {
-    /// The path that the whole text is.
+    /// Parses the whole text as a path.
+    ///
+    /// # Errors
+    ///
+    /// Fails with `InvalidJsonPath` of the text if the text isn't a path, and with `OutOfMemory` if memory runs out.
     pub fn parse(alloc: Global, raw: &str) -> Result<Path, RenderError>
         ensures ok { IfOk result (λ path. IsPath raw.now (reference_of path)) }
 
-        // Only what is no path is refused, unless memory runs out.
+        // Unless memory runs out, only a text that isn't a path is rejected.
         ensures err { IfErr result (λ e. reason_in e ≢ out_of_memory
             → (refusal_of e ≡ plain_refusal (invalid_json_path raw.now))
             × ((means : Reference) → IsPath raw.now means → ⊥)) }
@@ -60,7 +64,7 @@ impl Path {
         }
     }
 
-    /// The text as written.
+    /// Returns the text as written.
     pub fn raw(&self) -> &str
         ensures { result.now ≡ raw_of (reference_of self.now) }
     {
@@ -71,15 +75,19 @@ impl Path {
     }
 }
 
-/// The path that the whole text is, if it is one.
+/// Parses the whole text as a path. Returns `None` if it isn't one.
+///
+/// # Errors
+///
+/// Fails if memory runs out.
 pub fn read_path(alloc: Global, raw: &str) -> Result<Option<Path>, AllocError>
     ensures found { IfOk result (λ read. IfSome read (λ path. IsPath raw.now (reference_of path))) }
     ensures none { IfOk result (λ read. IsNone read ↔ ((means : Reference) → IsPath raw.now means → ⊥)) }
 {
-    match read_front(alloc, raw)? {
-        Some(front) => {
-            if front.rest.is_empty() {
-                Ok(Some(front.path))
+    match read_prefix(alloc, raw)? {
+        Some(prefix) => {
+            if prefix.rest.is_empty() {
+                Ok(Some(prefix.path))
             } else {
                 Ok(None)
             }

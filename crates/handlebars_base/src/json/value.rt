@@ -1,4 +1,4 @@
-//! Values of JSON: how they are rendered, whether they count as true, and where they come from.
+//! JSON values: how they are rendered, whether they count as true, and where they come from.
 
 ghost use Rattle.std.specs.Prelude.{◌≡◌, Bool, IfOk, IsTrue, ◌↔◌, string_bytes, false, option_map, map, Some};
 ghost use Rattle.handlebars_base.specs.Bytes.{Text};
@@ -22,10 +22,10 @@ use serde_json::{Number, Value};
 use std::alloc::{AllocError, Global};
 pub use write::write_value;
 
-/// A value of JSON.
+/// A JSON value.
 pub type Json = Value;
 
-/// A value with where it came from: of the template, made on the way, of the data with its full
+/// A value with its origin: a value of the template, one made during the rendering, one of the data with its full
 /// path, or none.
 #[derive(Drop)]
 pub enum ScopedJson<'rc> {
@@ -36,7 +36,7 @@ pub enum ScopedJson<'rc> {
 }
 
 impl<'rc> ScopedJson<'rc> {
-    /// The value, where there is one: none for `Missing`, which counts as null elsewhere.
+    /// Returns the value, or `None` for `Missing`, which counts as null elsewhere.
     pub fn as_json(&self) -> Option<&Value>
         ensures { option_map (λ v. view v.now) result ≡ present_in (found_of self.now) }
     {
@@ -48,7 +48,11 @@ impl<'rc> ScopedJson<'rc> {
         }
     }
 
-    /// The value as a text; `Missing` is empty.
+    /// Renders the value as a text. `Missing` renders as the empty text.
+    ///
+    /// # Errors
+    ///
+    /// Fails if memory runs out.
     pub fn render(&self, alloc: Global) -> Result<String, AllocError>
         ensures { IfOk result (λ s. string_bytes s ≡ rendered (data_in (found_of self.now))) }
     {
@@ -58,13 +62,18 @@ impl<'rc> ScopedJson<'rc> {
         }
     }
 
+    /// Returns whether the value is `Missing`.
     pub fn is_missing(&self) -> bool
         ensures { IsTrue result ↔ (found_of self.now ≡ missing) }
     {
         matches!(self, ScopedJson::Missing)
     }
 
-    /// The value as one that has no place in the data; `Missing` becomes null.
+    /// Converts the value into a `Derived` one, which has no path in the data. `Missing` becomes null.
+    ///
+    /// # Errors
+    ///
+    /// Fails if memory runs out.
     pub fn into_derived(self, _alloc: Global) -> Result<ScopedJson<'rc>, AllocError>
         ensures value { IfOk result (λ s. found_of s ≡ value (data_in (found_of self.entry))) }
         ensures derived { IfOk result (λ s. derived_in s ≡ Some (data_in (found_of self.entry))) }
@@ -77,7 +86,7 @@ impl<'rc> ScopedJson<'rc> {
         }
     }
 
-    /// The full path of a value of the data.
+    /// Returns the full path if the value is one of the data.
     pub fn context_path(&self) -> Option<&Vec<String>>
         ensures { option_map (λ p. map string_bytes p.now.items) result ≡ path_in (found_of self.now) }
     {
@@ -99,17 +108,22 @@ impl<'rc> From<Value> for ScopedJson<'rc> {
     }
 }
 
-/// The text that a value is, where it is one.
+/// Returns the text if the value is one.
 pub fn as_string(value: &Json) -> Option<&str>
     ensures { option_map (λ s. s.now) result ≡ as_str (view value.now) }
 {
     value.as_str()
 }
 
-/// What a template writes for a value.
+/// Values that can be rendered as text, as a template writes them.
 pub trait JsonRender {
     ghost renders_as: { Self → Text };
 
+    /// Renders the value as a text.
+    ///
+    /// # Errors
+    ///
+    /// Fails if memory runs out.
     fn render(&self, alloc: Global) -> Result<String, AllocError>
         ensures { IfOk result (λ s. string_bytes s ≡ renders_as self.now) };
 }
@@ -121,17 +135,17 @@ impl JsonRender for Value {
         let mut out = StringOutput::new(alloc);
         match write_value(&mut out, self, false) {
             Ok(()) => Ok(out.into_string()),
-            // An output in memory fails only for want of it.
+            // An output in memory fails only when memory runs out.
             Err(_) => Err(AllocError),
         }
     }
 }
 
-/// Whether a value counts as true.
+/// Values that may count as true.
 pub trait JsonTruthy {
     ghost truth_of: { Self → Bool → Bool };
 
-    /// With `include_zero`, 0 counts as true.
+    /// Returns whether the value counts as true. With `include_zero`, 0 counts as true.
     fn is_truthy(&self, include_zero: bool) -> bool
         ensures { result ≡ truth_of self.now include_zero };
 }
@@ -151,7 +165,7 @@ impl JsonTruthy for Value {
     }
 }
 
-// A number outside the range counts as null.
+// Returns whether a number counts as true. A number outside the range counts as null.
 fn counts(number: &Number, include_zero: bool) -> bool
     ensures { result ≡ truth_of_number include_zero (number_view number.now) }
 {

@@ -1,11 +1,11 @@
-//! The blocks of scope of a rendering.
+//! The scope frames of a rendering.
 
 ghost use Rattle.std.specs.Prelude.{◌≡◌, ◌∷◌, [], IfOk, OnErr, OnOk, drop, option_map, slice_get};
 ghost use Rattle.std.specs.Borrow.{sem};
 ghost use Rattle.handlebars_template.specs.TreeView.{tree_view};
 ghost use Rattle.handlebars_scope.specs.Scopes.{empty_frame};
 ghost use Rattle.handlebars_scope.specs.ScopeView.{frame_of, frames_of};
-ghost use Rattle.handlebars_meaning.specs.State.{outer_frames, partial_in};
+ghost use Rattle.handlebars_semantics.specs.State.{outer_frames, partial_in};
 ghost use Rattle.handlebars_expand.specs.Bare.{AreBare};
 
 use handlebars_scope::block::BlockContext;
@@ -15,20 +15,20 @@ use std::collections::VecDeque;
 use std::mem;
 use std::rc::Rc;
 
-/// Blocks of scope, nearest first. A search for a partial passes over those that are known to have none: each inclusion
-/// searches, and all those around it have a block.
+/// The scope frames of a rendering, nearest first. A search for a partial skips those that are known to have none: each
+/// inclusion searches, and each inclusion around it has a frame.
 #[derive(Drop)]
 pub struct Blocks {
     pub(super) all: VecDeque<BlockContext>,
-    // So many of those behind the nearest one, which may be lent to be changed, have no partial.
+    // The number of frames after the nearest one that are known to have no partial. The nearest one may be borrowed mutably.
     bare: usize,
     ghost are_bare: { AreBare bare (outer_frames (frames_of all.items)) },
 }
 
 impl Blocks {
-    ghost use Rattle.handlebars_expand.specs.BlocksView.{LendsNearest, all_frames};
+    ghost use Rattle.handlebars_expand.specs.BlocksView.{BorrowsNearest, all_frames};
 
-    /// A block in which nothing is set.
+    /// Returns a single scope frame, in which nothing is set.
     pub fn new(alloc: Global) -> Result<Blocks, AllocError>
         ensures { IfOk result (λ blocks. all_frames blocks ≡ empty_frame ∷ []) }
     {
@@ -37,33 +37,37 @@ impl Blocks {
         Ok(Blocks { all, bare: 0 })
     }
 
-    /// The nearest one.
+    /// Returns the nearest scope frame, or `None` if there is none.
     pub fn nearest(&self) -> Option<&BlockContext>
         ensures { option_map (λ b. frame_of b.now) result ≡ slice_get (all_frames self.now) 0 }
     {
         self.all.front()
     }
 
-    /// The nearest one, to be changed.
+    /// Returns a mutable reference to the nearest scope frame, or `None` if there is none.
     pub fn nearest_mut(&mut self) -> Option<&mut BlockContext>
-        ensures* writes_back { sem 𝓛 (LendsNearest self.entry result) }
+        ensures* writes_back { sem 𝓛 (BorrowsNearest self.entry result) }
         ensures value { option_map (λ b. frame_of b.now) result ≡ slice_get (all_frames self.old) 0 }
     {
         self.all.front_mut()
     }
 
-    /// Makes a block the nearest one. Where memory is refused, nothing is changed.
+    /// Makes a scope frame the nearest one.
+    ///
+    /// # Errors
+    ///
+    /// Fails if memory runs out. The frames are then unchanged.
     pub fn push(&mut self, block: BlockContext) -> Result<(), AllocError>
         ensures ok { OnOk result (all_frames self.new ≡ frame_of block ∷ all_frames self.old) }
         ensures err { OnErr result (all_frames self.new ≡ all_frames self.old) }
     {
-        let bare = self.bare_in_front();
+        let bare = self.bare_at_start();
         self.all.push_front(block)?;
         self.bare = bare;
         Ok(())
     }
 
-    /// Takes the nearest one away, where there is one.
+    /// Removes the nearest scope frame, if there is one.
     pub fn pop(&mut self)
         ensures { all_frames self.new ≡ outer_frames (all_frames self.old) }
     {
@@ -71,7 +75,7 @@ impl Blocks {
         self.bare = self.bare.saturating_sub(1);
     }
 
-    /// Others take the place of those that are there, which are given.
+    /// Replaces the scope frames by others, and returns the old ones.
     pub fn replace(&mut self, blocks: VecDeque<BlockContext>) -> VecDeque<BlockContext>
         ensures replaced { frames_of result.items ≡ all_frames self.old }
         ensures new { all_frames self.new ≡ frames_of blocks.items }
@@ -80,7 +84,7 @@ impl Blocks {
         mem::replace(&mut self.all, blocks)
     }
 
-    /// The partial of a name: the one of the nearest block that has one.
+    /// Returns the partial of a name: the one of the nearest scope frame that has one.
     pub fn partial(&self, name: &str) -> Option<&Rc<Template>>
         ensures { option_map (λ t. tree_view t.now.value) result ≡ partial_in (all_frames self.now) name.now }
     {
@@ -93,7 +97,7 @@ impl Blocks {
         }
     }
 
-    // The partial of a name in the blocks from this one outwards.
+    // The partial of a name in the frames from this one outwards.
     fn partial_from(&self, first: usize, name: &str) -> Option<&Rc<Template>>
         ensures { option_map (λ t. tree_view t.now.value) result ≡ partial_in (drop first (all_frames self.now)) name.now }
     {
@@ -108,15 +112,15 @@ impl Blocks {
         None
     }
 
-    // The block so many blocks outwards, if it is there.
+    // The frame at this distance from the nearest one, outwards, if it exists.
     fn at(&self, at: usize) -> Option<&BlockContext>
         ensures { option_map (λ b. frame_of b.now) result ≡ slice_get (all_frames self.now) at }
     {
         self.all.get(at)
     }
 
-    // How many have no partial, from the nearest one outwards.
-    fn bare_in_front(&self) -> usize
+    // How many frames, from the nearest one outwards, are known to have no partial.
+    fn bare_at_start(&self) -> usize
         ensures { AreBare result (all_frames self.now) }
     {
         match self.nearest() {

@@ -1,5 +1,5 @@
-//! What rendering reads of its context, and changes there, which no caller may. These are functions and not methods, so
-//! that `handlebars`, which hands on the type, doesn't hand on them.
+//! What rendering reads and changes in its context, and callers may not. These are functions and not methods, so that
+//! `handlebars`, which re-exports the type, doesn't re-export them.
 
 ghost use Rattle.std.specs.Prelude.{◌≡◌, IfOk, OnErr, OnOk, Some, None, false, option_map, string_bytes};
 ghost use Rattle.serde_json.specs.View.{view};
@@ -10,27 +10,27 @@ ghost use Rattle.handlebars_template.specs.TreeView.{binding_of, binding_view, t
 ghost use Rattle.handlebars_scope.specs.Bases.{IsNode, NodesLead, bases_of, nodes_of};
 ghost use Rattle.handlebars_scope.specs.LineView.{line_of};
 ghost use Rattle.handlebars_scope.specs.Located.{located_of};
-ghost use Rattle.handlebars_scope.specs.Placing.{IsPlaced};
+ghost use Rattle.handlebars_scope.specs.DataLookups.{IsDataLookup};
 ghost use Rattle.handlebars_scope.specs.ScopeView.{frame_of, variables_of};
-ghost use Rattle.handlebars_scope.specs.WayView.{names_in, reached_of};
-ghost use Rattle.handlebars_helpers.specs.OwnView.{local_of};
-ghost use Rattle.handlebars_helpers.specs.Turns.{turn_frame};
-ghost use Rattle.handlebars_helpers.specs.View.{path_view, turn_view};
-ghost use Rattle.handlebars_meaning.specs.State as states;
-ghost use Rattle.handlebars_meaning.specs.State.{push_frame, pop_frame, partial_in, with_local, with_nearest, with_partial};
-ghost use Rattle.handlebars_meaning.specs.Values as values;
-ghost use Rattle.handlebars_expand.specs.View.{has_failed, lending, read_in, root_of, state_behind, state_of, with_current, with_line, HasOuter, IsKept, NearestBelow};
+ghost use Rattle.handlebars_scope.specs.ResolutionView.{names_in, reached_of};
+ghost use Rattle.handlebars_helpers.specs.UserView.{local_of};
+ghost use Rattle.handlebars_helpers.specs.Iterations.{iteration_frame};
+ghost use Rattle.handlebars_helpers.specs.View.{path_view, iteration_view};
+ghost use Rattle.handlebars_semantics.specs.State as states;
+ghost use Rattle.handlebars_semantics.specs.State.{push_frame, pop_frame, partial_in, with_local, with_nearest, with_partial};
+ghost use Rattle.handlebars_semantics.specs.Values as values;
+ghost use Rattle.handlebars_expand.specs.View.{has_failed, borrowing, read_in, root_of, state_after, state_of, with_current, with_line, HasOuter, IsUnchanged, NearestBelow};
 
 use crate::context::RenderContext;
 use handlebars_base::json::path::Path;
 use handlebars_base::json::value::Json;
-use handlebars_helpers::own::LocalHelper;
-use handlebars_helpers::turn;
-use handlebars_helpers::turn::Turn;
+use handlebars_helpers::iteration;
+use handlebars_helpers::iteration::Iteration;
+use handlebars_helpers::user::LocalHelper;
 use handlebars_scope::block::BlockContext;
 use handlebars_scope::context::bases::Bases;
+use handlebars_scope::context::data_node::DataLookup;
 use handlebars_scope::context::located::Located;
-use handlebars_scope::context::place::Placed;
 use handlebars_scope::context::reached::Reached;
 use handlebars_scope::context::{located, walk};
 use handlebars_scope::line::LineState;
@@ -39,33 +39,33 @@ use handlebars_template::template::{BlockParam, Template};
 use std::alloc::{AllocError, Global};
 use std::rc::Rc;
 
-// Sets the nearest block up for a turn of `each`: the first one, or another one of the same.
-pub fn set_up_turn(
+// Sets the nearest scope frame up for an iteration of `each`: the first one, or a later one of the same `each`.
+pub fn set_up_iteration(
     rc: &mut RenderContext,
     first: bool,
     binding: Option<&BlockParam>,
     path: Option<&Vec<String>>,
-    turn: Turn,
+    iteration: Iteration,
 ) -> Result<(), AllocError>
     ensures ok { (first ≡ false → NearestBelow (path_view path.entry) (state_of rc.old).blocks)
-        → OnOk result (state_of rc.new ≡ with_nearest (turn_frame (path_view path.entry)
-        (binding_of (option_map (λ b. binding_view b.now) binding.entry)) (turn_view turn.entry))
+        → OnOk result (state_of rc.new ≡ with_nearest (iteration_frame (path_view path.entry)
+        (binding_of (option_map (λ b. binding_view b.now) binding.entry)) (iteration_view iteration.entry))
         (state_of rc.old)) }
     ensures outer { HasOuter rc.old rc.new }
 {
     match rc.blocks.nearest_mut() {
         Some(block) => {
             if first {
-                turn::set_up_turn(rc.alloc, block, binding, path, turn)
+                iteration::set_up_iteration(rc.alloc, block, binding, path, iteration)
             } else {
-                turn::set_up_next_turn(rc.alloc, block, binding, path, turn)
+                iteration::set_up_next_iteration(rc.alloc, block, binding, path, iteration)
             }
         }
         None => Ok(()),
     }
 }
 
-// The nearest block has this template under the name from now on; without any block nothing is changed.
+// Stores this template under the name in the nearest scope frame. Without any frame nothing is changed.
 pub fn set_partial(
     rc: &mut RenderContext,
     name: &str,
@@ -73,7 +73,7 @@ pub fn set_partial(
 ) -> Result<(), AllocError>
     ensures ok { OnOk result (state_of rc.new
         ≡ with_nearest (with_partial name.now (tree_view template.now)) (state_of rc.old)) }
-    ensures kept { IsKept rc.old rc.new }
+    ensures unchanged { IsUnchanged rc.old rc.new }
 {
     match rc.blocks.nearest_mut() {
         Some(block) => put_partial(rc.alloc, block, name, template),
@@ -81,8 +81,8 @@ pub fn set_partial(
     }
 }
 
-// The partial of a name that a decorator set, shared with the block that has it, which may be given another one while
-// this is rendered.
+// The partial of a name that a decorator set. It is shared with the scope frame that has it, which may get another partial
+// under the name while this one is rendered.
 pub fn shared_partial(rc: &RenderContext, name: &str) -> Result<Option<Rc<Template>>, AllocError>
     ensures { IfOk result (λ shared. option_map (λ t. tree_view t.value) shared
         ≡ partial_in (state_of rc.now).blocks name.now) }
@@ -93,7 +93,7 @@ pub fn shared_partial(rc: &RenderContext, name: &str) -> Result<Option<Rc<Templa
     }
 }
 
-// Puts a copy of a template under a name in a block.
+// Stores a copy of a template under a name in a scope frame.
 fn put_partial(
     alloc: Global,
     block: &mut BlockContext,
@@ -107,7 +107,7 @@ fn put_partial(
     block.set_local_partial(name, copy)
 }
 
-// The variables of the nearest block; without any block there are none.
+// The variables of the nearest scope frame. Without any frame there are none.
 pub fn nearest_variables(rc: &RenderContext) -> Result<LocalVars, AllocError>
     ensures { IfOk result (λ variables. variables_of variables ≡ states.nearest_variables (state_of rc.now).blocks) }
 {
@@ -117,7 +117,7 @@ pub fn nearest_variables(rc: &RenderContext) -> Result<LocalVars, AllocError>
     }
 }
 
-// Binds a name to a helper of its own, both of texts that nobody else needs.
+// Binds a name to a local helper. Both are passed as owned values.
 pub fn bind_helper(
     rc: &mut RenderContext,
     name: String,
@@ -126,7 +126,7 @@ pub fn bind_helper(
     ensures ok { OnOk result (state_of rc.new
         ≡ with_local (string_bytes name) (local_of helper) (state_of rc.old)) }
     ensures err { OnErr result (state_of rc.new ≡ state_of rc.old) }
-    ensures kept { IsKept rc.old rc.new }
+    ensures unchanged { IsUnchanged rc.old rc.new }
 {
     rc.local_helpers.insert(name, helper)?;
     Ok(())
@@ -139,16 +139,16 @@ pub fn escapes(rc: &RenderContext) -> bool
     rc.escapes
 }
 
-// Takes the current name away, and gives it.
+// Removes the current name, and returns it.
 pub fn take_name(rc: &mut RenderContext) -> Option<String>
     ensures name { option_map string_bytes result ≡ (state_of rc.old).current }
     ensures state { state_of rc.new ≡ with_current None (state_of rc.old) }
-    ensures kept { IsKept rc.old rc.new }
+    ensures unchanged { IsUnchanged rc.old rc.new }
 {
     rc.current_template.take()
 }
 
-// An inclusion begins, in this block. The name that was the current one is given.
+// Begins an inclusion in this scope frame. Returns the name that was the current one.
 #[inline(always)]
 pub fn begin(rc: &mut RenderContext, block: BlockContext) -> Result<Option<String>, AllocError>
     ensures name { IfOk result (λ name. option_map string_bytes name ≡ (state_of rc.old).current) }
@@ -161,7 +161,7 @@ pub fn begin(rc: &mut RenderContext, block: BlockContext) -> Result<Option<Strin
     Ok(rc.current_template.take())
 }
 
-// An inclusion is over: its block is left, and this name is the current one again.
+// Ends an inclusion: removes its scope frame, and makes this name the current one again.
 pub fn end(rc: &mut RenderContext, name: Option<String>)
     ensures state { state_of rc.new ≡ with_current (option_map string_bytes name) (pop_frame (state_of rc.old)) }
     ensures root { root_of rc.new ≡ root_of rc.old }
@@ -171,12 +171,12 @@ pub fn end(rc: &mut RenderContext, name: Option<String>)
     rc.current_template = name;
 }
 
-// Makes a name the current one, or none. A name that is the current one isn't copied again.
+// Makes a name the current one, or none. A name that already is the current one isn't copied.
 pub fn enter(rc: &mut RenderContext, name: &Option<String>) -> Result<(), AllocError>
     ensures ok { OnOk result (state_of rc.new
         ≡ record (state_of rc.old) { current = option_map string_bytes name.now }) }
     ensures err { OnErr result (state_of rc.new ≡ state_of rc.old) }
-    ensures kept { IsKept rc.old rc.new }
+    ensures unchanged { IsUnchanged rc.old rc.new }
 {
     match name {
         Some(name) => enter_name(rc, name),
@@ -192,7 +192,7 @@ fn enter_name(rc: &mut RenderContext, name: &String) -> Result<(), AllocError>
     ensures ok { OnOk result (state_of rc.new
         ≡ record (state_of rc.old) { current = Some (string_bytes name.now) }) }
     ensures err { OnErr result (state_of rc.new ≡ state_of rc.old) }
-    ensures kept { IsKept rc.old rc.new }
+    ensures unchanged { IsUnchanged rc.old rc.new }
 {
     let is_current = match &rc.current_template {
         Some(current) => current.as_str() == name.as_str(),
@@ -204,31 +204,31 @@ fn enter_name(rc: &mut RenderContext, name: &String) -> Result<(), AllocError>
     Ok(())
 }
 
-// A text was written.
+// Updates the state of the line after a text was written.
 pub fn pass_text(rc: &mut RenderContext, text: &str)
-    ensures state { state_of rc.new ≡ state_behind text.now (state_of rc.old) }
-    ensures kept { IsKept rc.old rc.new }
+    ensures state { state_of rc.new ≡ state_after text.now (state_of rc.old) }
+    ensures unchanged { IsUnchanged rc.old rc.new }
 {
-    rc.line = rc.line.behind(text);
+    rc.line = rc.line.after(text);
 }
 
-// The line that is being written.
+// The state of the line that is being written.
 pub fn line(rc: &RenderContext) -> LineState
     ensures { line_of result ≡ (state_of rc.now).line }
 {
     rc.line
 }
 
-// From now on this is the line that is being written.
+// Sets the state of the line that is being written.
 pub fn set_line(rc: &mut RenderContext, line: LineState)
     ensures state { state_of rc.new ≡ with_line (line_of line) (state_of rc.old) }
-    ensures kept { IsKept rc.old rc.new }
+    ensures unchanged { IsUnchanged rc.old rc.new }
 {
     rc.line = line;
 }
 
-// What a path leads to in these blocks, of which some are lent their bases, and in this data where it wasn't
-// changed; nothing is copied.
+// What a path leads to in the scope frames, some of which borrow their bases, and in this data if it wasn't changed. Nothing is
+// copied.
 pub fn reach<'v: 'n, 'n>(
     rc: &'v RenderContext,
     given: &'v Json,
@@ -237,7 +237,7 @@ pub fn reach<'v: 'n, 'n>(
 ) -> Reached<'v, 'n>
     requires nodes { NodesLead (nodes_of bases.now) (state_of rc.now).blocks (view given.now) }
     ensures { reached_of result ≡ answer_map present_in
-        (read_in (lending (bases_of bases.now) (state_of rc.now)) (view given.now) (reference_of path.now)) }
+        (read_in (borrowing (bases_of bases.now) (state_of rc.now)) (view given.now) (reference_of path.now)) }
 {
     match &rc.changed {
         None => walk::reach(
@@ -252,8 +252,8 @@ pub fn reach<'v: 'n, 'n>(
     }
 }
 
-// What a path leads to in these blocks and this data where it wasn't changed, with the full path of a value of the data;
-// nothing is copied.
+// What a path leads to in the scope frames, and in this data if it wasn't changed, with the full path of a value of the data.
+// Nothing is copied.
 pub fn locate<'v: 'n, 'n>(
     rc: &'v RenderContext,
     given: &'v Json,
@@ -262,7 +262,7 @@ pub fn locate<'v: 'n, 'n>(
 ) -> Located<'v, 'n>
     requires nodes { NodesLead (nodes_of bases.now) (state_of rc.now).blocks (view given.now) }
     ensures { located_of result
-        ≡ read_in (lending (bases_of bases.now) (state_of rc.now)) (view given.now) (reference_of path.now) }
+        ≡ read_in (borrowing (bases_of bases.now) (state_of rc.now)) (view given.now) (reference_of path.now) }
 {
     match &rc.changed {
         None => located::locate(
@@ -289,19 +289,20 @@ fn without_path<'v, 'n>(reached: Reached<'v, 'n>) -> Located<'v, 'n>
     }
 }
 
-// Where a path leads in this data, with its full path, where it wasn't changed and that is told without a copy of a value.
-pub fn place<'a>(
+// The node that a path leads to in this data, with its full path, if the data wasn't changed and no value has to be copied to
+// determine it.
+pub fn data_node<'a>(
     rc: &RenderContext,
     given: &'a Json,
     path: &Path,
     bases: &Bases<'_, 'a>,
-) -> Placed<'a>
+) -> DataLookup<'a>
     requires nodes { NodesLead (nodes_of bases.now) (state_of rc.now).blocks (view given.now) }
-    ensures { IsPlaced result (view given.now)
-        (read_in (lending (bases_of bases.now) (state_of rc.now)) (view given.now) (reference_of path.now)) }
+    ensures { IsDataLookup result (view given.now)
+        (read_in (borrowing (bases_of bases.now) (state_of rc.now)) (view given.now) (reference_of path.now)) }
 {
     match &rc.changed {
-        None => walk::place(
+        None => walk::data_node(
             rc.alloc,
             given,
             path,
@@ -310,11 +311,11 @@ pub fn place<'a>(
             rc.recursive_lookup,
             &rc.looked_up,
         ),
-        Some(_context) => Placed::Untold,
+        Some(_context) => DataLookup::Undetermined,
     }
 }
 
-// The value of this data that names lead to; none where they lead to none.
+// The value of this data that names lead to, or none if they lead to none.
 pub fn node_at<'a>(rc: &RenderContext, given: &'a Json, names: &[String]) -> Option<&'a Json>
     ensures { IsNode (view given.now) (names_in names.now) (option_map (λ v. view v.now) result) }
 {

@@ -1,20 +1,20 @@
-//! What paths lead to in the blocks of a rendering and in the data.
+//! What paths lead to in the scope frames of a rendering and in the data.
 
 ghost use Rattle.std.specs.Prelude.{◌≡◌, ◌≢◌, [], IfOk, IfErr, IfSome, Some, false};
 ghost use Rattle.serde_json.specs.View.{view};
-ghost use Rattle.handlebars_base.specs.Answers.{Answers, answer_map, gives, refuses};
+ghost use Rattle.handlebars_base.specs.Answers.{Answers, answer_map, gives, fails};
 ghost use Rattle.handlebars_base.specs.Path.{relative};
 ghost use Rattle.handlebars_base.specs.PathView.{reference_of};
 ghost use Rattle.handlebars_base.specs.Reasons.{out_of_memory};
 ghost use Rattle.handlebars_base.specs.RenderRefusals.{reason_in, refusal_of};
 ghost use Rattle.handlebars_base.specs.Scoped.{found_of, is_constant, present_in};
-ghost use Rattle.handlebars_scope.specs.Bases.{NodesLead, bases_of, lend, nodes_of};
+ghost use Rattle.handlebars_scope.specs.Bases.{NodesLead, bases_of, with_borrowed, nodes_of};
 ghost use Rattle.handlebars_scope.specs.Contexts.{data_of};
 ghost use Rattle.handlebars_scope.specs.Resolve.{resolve};
-ghost use Rattle.handlebars_scope.specs.WayView.{reached_of};
-ghost use Rattle.handlebars_meaning.specs.Values as values;
-ghost use Rattle.handlebars_meaning.specs.Values.{Evaluates};
-ghost use Rattle.handlebars_expand.specs.View.{lending, read_in, state_of};
+ghost use Rattle.handlebars_scope.specs.ResolutionView.{reached_of};
+ghost use Rattle.handlebars_semantics.specs.Values as values;
+ghost use Rattle.handlebars_semantics.specs.Values.{Evaluates};
+ghost use Rattle.handlebars_expand.specs.View.{borrowing, read_in, state_of};
 
 use crate::context::RenderContext;
 use handlebars_base::error::RenderError;
@@ -33,7 +33,7 @@ impl RenderContext {
         bases: &'v Bases<'v, 'v>,
     ) -> Reached<'v, 'n>
         ensures { reached_of result ≡ answer_map present_in (answer_map values.without_path (resolve
-            (state_of self.now).recursive (lend (bases_of bases.now) (state_of self.now).blocks) (reference_of path.now)
+            (state_of self.now).recursive (with_borrowed (bases_of bases.now) (state_of self.now).blocks) (reference_of path.now)
             (data_of context.now))) }
     {
         match walk::reach_from_data(
@@ -50,26 +50,26 @@ impl RenderContext {
         }
     }
 
-    // The value that the empty path leads to, where neither a block of this context nor changed data holds it, so that
-    // the context may change while it is lent.
-    pub(crate) fn lent_current<'v>(
+    // The value that the empty path leads to, unless a scope frame of this context or changed data holds it: the context may
+    // change while the value is borrowed.
+    pub(crate) fn borrowed_current<'v>(
         &self,
         given: &'v Json,
         bases: &'v Bases<'v, 'v>,
     ) -> Option<&'v Json>
         requires nodes { NodesLead (nodes_of bases.now) (state_of self.now).blocks (view given.now) }
         ensures { IfSome result (λ v. answer_map present_in
-            (read_in (lending (bases_of bases.now) (state_of self.now)) (view given.now) (relative [] []))
+            (read_in (borrowing (bases_of bases.now) (state_of self.now)) (view given.now) (relative [] []))
             ≡ gives (Some (view v.now))) }
     {
         match &self.changed {
             None => walk::current(given, &self.blocks.all, bases, &self.looked_up),
-            Some(_context) => walk::lent(&self.blocks.all, bases),
+            Some(_context) => walk::borrowed(&self.blocks.all, bases),
         }
     }
 
-    // What a path leads to, with the full path of a value of the data, where it wasn't changed. A value that a block
-    // holds is copied, and so is one of changed data.
+    // What a path leads to, with its full path if it is a value of unchanged data. A value that a scope frame holds is copied,
+    // and so is one of changed data.
     pub(crate) fn find<'a>(
         &self,
         given: &'a Json,
@@ -78,7 +78,7 @@ impl RenderContext {
     ) -> Result<ScopedJson<'a>, RenderError>
         requires nodes { NodesLead (nodes_of bases.now) (state_of self.now).blocks (view given.now) }
         ensures found { Answers found_of result
-            (read_in (lending (bases_of bases.now) (state_of self.now)) (view given.now) (reference_of path.now)) }
+            (read_in (borrowing (bases_of bases.now) (state_of self.now)) (view given.now) (reference_of path.now)) }
         ensures plain { IfOk result (λ found. is_constant found ≡ false) }
     {
         match &self.changed {
@@ -103,7 +103,7 @@ impl RenderContext {
         bases: &Bases<'_, '_>,
     ) -> Result<ScopedJson<'a>, RenderError>
         ensures found { Answers found_of result (answer_map values.without_path (resolve
-            (state_of self.now).recursive (lend (bases_of bases.now) (state_of self.now).blocks) (reference_of path.now)
+            (state_of self.now).recursive (with_borrowed (bases_of bases.now) (state_of self.now).blocks) (reference_of path.now)
             (data_of context.now))) }
         ensures plain { IfOk result (λ found. is_constant found ≡ false) }
     {
@@ -122,8 +122,12 @@ impl RenderContext {
         }
     }
 
-    /// What a text leads to, as a path, in the blocks of scope and the data. A refusal changes nothing
-    /// here.
+    /// Returns what a text leads to, as a path, in the scope frames and the data.
+    ///
+    /// # Errors
+    ///
+    /// Fails with `InvalidJsonPath` if the text is not a path, with the error of the lookup if that fails, or if memory runs
+    /// out. The context is unchanged.
     pub fn evaluate<'rc>(
         &self,
         context: &'rc Context,
@@ -133,7 +137,7 @@ impl RenderContext {
             (data_of context.now) path.now (gives (found_of found))) }
         ensures err { IfErr result (λ e. reason_in e ≢ out_of_memory
             → Evaluates (state_of self.now).recursive (state_of self.now).blocks
-            (data_of context.now) path.now (refuses (refusal_of e))) }
+            (data_of context.now) path.now (fails (refusal_of e))) }
         ensures plain { IfOk result (λ found. is_constant found ≡ false) }
     {
         let reference = Path::parse(self.alloc, path)?;
@@ -149,8 +153,8 @@ impl RenderContext {
         )
     }
 
-    /// How many members of the data were looked up for paths in renderings with this context, from the data itself or from the node
-    /// of a block, and in its evaluations. It stays at 2^64 - 1 once it is there.
+    /// Returns how many members of the data were looked up for paths: in renderings with this context, from the data itself or
+    /// from the node of a scope frame, and in its evaluations. The count stays at 2^64 - 1 once it is there.
     pub fn looked_up(&self) -> u64 {
         self.looked_up.members()
     }

@@ -1,35 +1,35 @@
-//! The names of templates that a rendering is in.
+//! The names of the templates that are being rendered.
 
 ghost use Rattle.std.specs.Prelude.{◌≡◌, Some, None, option_map, string_bytes};
-ghost use Rattle.handlebars_meaning.specs.Inclusion.{is_current};
-ghost use Rattle.handlebars_expand.specs.View.{with_current, root_of, state_of, IsKept};
+ghost use Rattle.handlebars_semantics.specs.Inclusion.{is_current};
+ghost use Rattle.handlebars_expand.specs.View.{with_current, root_of, state_of, IsUnchanged};
 
 use crate::context::RenderContext;
 
 impl RenderContext {
-    /// The name of the template that the run began with, if it has one.
+    /// Returns the name of the template that the run began with, if it has one.
     pub fn get_root_template_name(&self) -> Option<&String>
         ensures { option_map (λ name. string_bytes name.now) result ≡ root_of self.now }
     {
         self.root_template.as_ref()
     }
 
-    /// The name of the template whose elements are being rendered, if it has one.
+    /// Returns the name of the template whose elements are being rendered, if it has one.
     pub fn get_current_template_name(&self) -> Option<&String>
         ensures { option_map (λ name. string_bytes name.now) result ≡ (state_of self.now).current }
     {
         self.current_template.as_ref()
     }
 
-    /// From now on this is the name of the template whose elements are being rendered, or it has none.
+    /// Sets the name of the template whose elements are being rendered, or removes it.
     pub fn set_current_template_name(&mut self, name: Option<String>)
         ensures state { state_of self.new ≡ with_current (option_map string_bytes name) (state_of self.old) }
-        ensures kept { IsKept self.old self.new }
+        ensures unchanged { IsUnchanged self.old self.new }
     {
         self.current_template = name;
     }
 
-    /// Whether a name is that of the template whose elements are being rendered.
+    /// Returns whether `name` is the name of the template whose elements are being rendered.
     #[inline(always)]
     pub fn is_current_template(&self, name: &str) -> bool
         ensures { result ≡ is_current name.now (state_of self.now).current }

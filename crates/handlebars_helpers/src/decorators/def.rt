@@ -1,24 +1,24 @@
-//! Decorators of one's own.
+//! User-defined decorators.
 
 ghost use Rattle.std.specs.Prelude.{List};
 ghost use Rattle.handlebars_base.specs.Answers.{Answer};
-ghost use Rattle.handlebars_helpers.specs.Decoration.{Deed};
-ghost use Rattle.handlebars_helpers.specs.DecoratorsView.{deeds_of, decorator_question_of};
-ghost use Rattle.handlebars_helpers.specs.Own.{HasOne};
-ghost use Rattle.handlebars_helpers.specs.OwnDecorator.{DecoratorQuestion};
-ghost use Rattle.handlebars_helpers.specs.OwnView.{IsOneOf};
+ghost use Rattle.handlebars_helpers.specs.Decoration.{Action};
+ghost use Rattle.handlebars_helpers.specs.DecoratorsView.{actions_view, decorator_question_of};
+ghost use Rattle.handlebars_helpers.specs.UserHelper.{HasOne};
+ghost use Rattle.handlebars_helpers.specs.UserDecorator.{DecoratorQuestion};
+ghost use Rattle.handlebars_helpers.specs.UserView.{IsOneOf};
 
 use crate::decorators::DecoratorResult;
 use crate::decorators::view::Decorator;
 use handlebars_scope::context::Context;
 
-/// A decorator of one's own.
+/// A user-defined decorator.
 pub trait DecoratorDef: Drop {
-    // The answers that it has for a tag.
-    ghost has_deeds: { Self → DecoratorQuestion → Answer (List Deed) → Type 0 };
+    // The answers that the decorator has for a tag.
+    ghost has_actions: { Self → DecoratorQuestion → Answer (List Action) → Type 0 };
 
-    /// Its deeds for a tag with this view, over the data that was given, or what stands in its place where
-    /// that was changed.
+    /// Returns the actions of the decorator for a tag with this view. `data` is the given data, and `changed`
+    /// the data that replaced it, if it was changed.
     fn call(
         &self,
         d: &Decorator,
@@ -26,8 +26,8 @@ pub trait DecoratorDef: Drop {
         changed: Option<&Context>,
         strict: bool,
     ) -> DecoratorResult
-        ensures { IsOneOf (has_deeds self.now (decorator_question_of d.now «data».now changed.entry strict)) deeds_of result };
+        ensures { IsOneOf (has_actions self.now (decorator_question_of d.now «data».now changed.entry strict)) actions_view result };
 
-    // To each question it has one answer.
-    ghost one_deeds: { (d : Self) (q : DecoratorQuestion) → HasOne (has_deeds d q) };
+    // The decorator has at most one answer to each question.
+    ghost one_actions: { (d : Self) (q : DecoratorQuestion) → HasOne (has_actions d q) };
 }

@@ -1,12 +1,12 @@
-//! What stands under the names of decorators.
+//! What is registered under the names of decorators.
 
 ghost use Rattle.std.specs.Prelude.{List};
 ghost use Rattle.handlebars_base.specs.Answers.{Answer};
-ghost use Rattle.handlebars_helpers.specs.Decoration.{Deed};
-ghost use Rattle.handlebars_helpers.specs.DecoratorsView.{deeds_of, decorator_question_of};
-ghost use Rattle.handlebars_helpers.specs.Own.{HasOne};
-ghost use Rattle.handlebars_helpers.specs.OwnDecorator.{DecoratorQuestion};
-ghost use Rattle.handlebars_helpers.specs.OwnView.{IsOneOf};
+ghost use Rattle.handlebars_helpers.specs.Decoration.{Action};
+ghost use Rattle.handlebars_helpers.specs.DecoratorsView.{actions_view, decorator_question_of};
+ghost use Rattle.handlebars_helpers.specs.UserHelper.{HasOne};
+ghost use Rattle.handlebars_helpers.specs.UserDecorator.{DecoratorQuestion};
+ghost use Rattle.handlebars_helpers.specs.UserView.{IsOneOf};
 
 use crate::decorators::DecoratorResult;
 use crate::decorators::def::DecoratorDef;
@@ -14,44 +14,44 @@ use crate::decorators::function::FnDecorator;
 use crate::decorators::view::Decorator;
 use handlebars_scope::context::Context;
 
-/// What stands under a decorator's name, where decorators of one's own are kept as `D`, and functions
-/// that stand for one as `G`.
+/// What is registered under a decorator's name. User-defined decorators are stored as `D`, and functions that
+/// are decorators as `G`.
 #[derive(Drop)]
 pub enum DecoratorEntryOf<D, G> {
-    /// Makes its body a partial of the nearest block of scope, under the name that its first parameter says.
+    /// Makes its body a partial of the nearest scope frame, under the name that its first parameter gives.
     Inline,
-    /// A decorator of one's own.
+    /// A user-defined decorator.
     Own(D),
-    /// A function that stands for a decorator.
+    /// A function that is a decorator.
     Function(G),
 }
 
-/// What stands under a decorator's name.
+/// What is registered under a decorator's name.
 pub type DecoratorEntry = DecoratorEntryOf<Box<dyn DecoratorDef>, FnDecorator>;
 
-/// A decorator of one's own, as it is kept under a name and asked by it.
+/// A user-defined decorator, as it is stored under a name and called by it.
 pub trait DecoratorPart: Drop {
-    ghost has_deeds: { Self → DecoratorQuestion → Answer (List Deed) → Type 0 };
+    ghost has_actions: { Self → DecoratorQuestion → Answer (List Action) → Type 0 };
 
-    /// What it answers for a tag.
-    fn deeds(
+    /// Returns what the decorator answers for a tag.
+    fn actions(
         &self,
         d: &Decorator,
         given: &Context,
         changed: Option<&Context>,
         strict: bool,
     ) -> DecoratorResult
-        ensures { IsOneOf (has_deeds self.now (decorator_question_of d.now given.now changed.entry strict)) deeds_of result };
+        ensures { IsOneOf (has_actions self.now (decorator_question_of d.now given.now changed.entry strict)) actions_view result };
 
-    /// No decorator that is kept so has two answers to one question.
-    fn keeps_law(_kept: &Option<Self>)
-        ensures { (d : Self) (q : DecoratorQuestion) → HasOne (has_deeds d q) };
+    /// Guarantees that no decorator stored so has two answers to one question.
+    fn satisfies_law(_registered: &Option<Self>)
+        ensures { (d : Self) (q : DecoratorQuestion) → HasOne (has_actions d q) };
 }
 
 impl DecoratorPart for Box<dyn DecoratorDef> {
-    ghost has_deeds = { λ b. (DecoratorDef-box b).has_deeds b.value };
+    ghost has_actions = { λ b. (DecoratorDef-box b).has_actions b.value };
 
-    fn deeds(
+    fn actions(
         &self,
         d: &Decorator,
         given: &Context,
@@ -61,5 +61,5 @@ impl DecoratorPart for Box<dyn DecoratorDef> {
         self.call(d, given, changed, strict)
     }
 
-    fn keeps_law(_kept: &Option<Box<dyn DecoratorDef>>) {}
+    fn satisfies_law(_registered: &Option<Box<dyn DecoratorDef>>) {}
 }

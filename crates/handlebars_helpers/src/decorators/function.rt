@@ -1,7 +1,7 @@
-//! Functions that stand for decorators.
+//! Functions as decorators.
 
 ghost use Rattle.std.specs.Prelude.{◌≡◌};
-ghost use Rattle.handlebars_helpers.specs.DecoratorsView.{deeds_of, decorator_question_of};
+ghost use Rattle.handlebars_helpers.specs.DecoratorsView.{actions_view, decorator_question_of};
 ghost use Rattle.handlebars_helpers.specs.Functions.{AnswersAt, AnswersOnceAt, AnswersOnceAt_prop};
 
 use crate::decorators::entry::DecoratorPart;
@@ -10,37 +10,38 @@ use crate::decorators::{DecoratorResult, DecoratorStep};
 use crate::refusal::FnRefusal;
 use handlebars_scope::context::Context;
 
-/// What a function answers in the place of `DecoratorDef::call`.
-pub type FnDeeds = Result<Vec<DecoratorStep>, FnRefusal>;
+/// What a function returns in place of `DecoratorDef::call`.
+pub type FnActions = Result<Vec<DecoratorStep>, FnRefusal>;
 
-/// A function in the place of `DecoratorDef::call`.
-pub type DecoratorFn = Box<dyn Fn(&Decorator, &Context, &Option<&Context>, bool) -> FnDeeds>;
+/// A function in place of `DecoratorDef::call`.
+pub type DecoratorFn = Box<dyn Fn(&Decorator, &Context, &Option<&Context>, bool) -> FnActions>;
 
-/// A decorator of one's own that is a function.
+/// A user-defined decorator that is a function.
 #[derive(Drop)]
 pub struct FnDecorator {
     f: DecoratorFn,
     ghost callable: { IsAlwaysCallable f },
-    ghost once: { AnswersOnceAt decorator_question_of deeds_of (post f) } by { AnswersOnceAt_prop _ _ _ },
+    ghost once: { AnswersOnceAt decorator_question_of actions_view (post f) } by { AnswersOnceAt_prop _ _ _ },
 }
 
 impl FnDecorator {
-    /// The decorator of a function that may always be called, and that has one answer to each question: to
-    /// two calls that ask the same it answers the same, want of memory aside.
+    /// Creates the decorator of a function. Requires that the function can always be called, and that it has at
+    /// most one answer to each question: to two calls that ask the same it answers the same, unless memory runs
+    /// out.
     pub fn new(f: DecoratorFn) -> FnDecorator
         requires callable { IsAlwaysCallable f }
-        requires once { AnswersOnceAt decorator_question_of deeds_of (post f) }
+        requires once { AnswersOnceAt decorator_question_of actions_view (post f) }
         ensures { result.f ≡ f }
     {
         FnDecorator { f }
     }
 }
 
-/// A function answers what it answers.
+/// A function answers what it returns.
 impl DecoratorPart for FnDecorator {
-    ghost has_deeds = { λ d. AnswersAt decorator_question_of deeds_of (DecoratorFn.post d.f) };
+    ghost has_actions = { λ d. AnswersAt decorator_question_of actions_view (DecoratorFn.post d.f) };
 
-    fn deeds(
+    fn actions(
         &self,
         d: &Decorator,
         given: &Context,
@@ -48,12 +49,12 @@ impl DecoratorPart for FnDecorator {
         strict: bool,
     ) -> DecoratorResult {
         match ask(&self.f, d, given, &changed, strict) {
-            Ok(deeds) => Ok(deeds),
+            Ok(actions) => Ok(actions),
             Err(refusal) => Err(refusal.into()),
         }
     }
 
-    fn keeps_law(_kept: &Option<FnDecorator>) {}
+    fn satisfies_law(_registered: &Option<FnDecorator>) {}
 }
 
 fn ask(
@@ -62,7 +63,7 @@ fn ask(
     given: &Context,
     changed: &Option<&Context>,
     strict: bool,
-) -> FnDeeds
+) -> FnActions
     requires { IsAlwaysCallable f.now }
     ensures { post f.now d.entry given.entry changed.entry strict result }
 {

@@ -1,10 +1,10 @@
-//! What a decorator's tag shows to the decorator.
+//! What a tag passes to its decorator.
 
 ghost use Rattle.std.specs.Prelude.{◌≡◌, option_map, map};
 ghost use Rattle.std.specs.Cow.{cow_str_bytes};
 ghost use Rattle.handlebars_base.specs.PathAndData.{path_and_data};
 ghost use Rattle.handlebars_template.specs.TreeView.{tree_view, body_of};
-ghost use Rattle.handlebars_helpers.specs.CallView.{pair_at, param_at};
+ghost use Rattle.handlebars_helpers.specs.CallView.{hash_at, param_at};
 ghost use Rattle.handlebars_helpers.specs.DecoratorsView.{tag_view};
 
 use handlebars_base::json::value::PathAndJson;
@@ -12,7 +12,8 @@ use handlebars_template::template::Template;
 use std::borrow::CowStr;
 use std::collections::BTreeMap;
 
-/// A tag, as the decorator of its name sees it: the values of its parameters and pairs, its body and its indentation.
+/// A tag, as the decorator of its name sees it: the values of its parameters and hash arguments, its body and
+/// its indentation.
 pub struct Decorator<'rc> {
     name: CowStr<'rc>,
     params: Vec<PathAndJson<'rc>>,
@@ -21,7 +22,7 @@ pub struct Decorator<'rc> {
     indent: Option<CowStr<'rc>>,
 }
 
-// By hand, so that whoever lets one go makes one call.
+// Not derived, so that every place that drops one makes a single call.
 impl Drop for Decorator<'_> {
     fn drop(self) {
         let Decorator {
@@ -35,7 +36,7 @@ impl Drop for Decorator<'_> {
 }
 
 impl<'rc> Decorator<'rc> {
-    /// A tag of these parts.
+    /// Creates the view of a tag of these parts.
     pub fn new(
         name: CowStr<'rc>,
         params: Vec<PathAndJson<'rc>>,
@@ -47,7 +48,7 @@ impl<'rc> Decorator<'rc> {
           call = record {
             name = cow_str_bytes name.entry;
             params = map path_and_data params.entry.items;
-            pairs = map (λ e. (e.0.now, path_and_data e.1)) hash.entry.entries;
+            hash = map (λ e. (e.0.now, path_and_data e.1)) hash.entry.entries;
           };
           body = body_of (option_map (λ t. tree_view t.now) template.entry);
           indent = option_map cow_str_bytes indent.entry;
@@ -62,49 +63,49 @@ impl<'rc> Decorator<'rc> {
         }
     }
 
-    /// The name of the decorator.
+    /// Returns the name of the decorator.
     pub fn name(&self) -> &str
         ensures { result.now ≡ (tag_view self.now).call.name }
     {
         self.name.as_str()
     }
 
-    /// The values of its parameters, in order.
+    /// Returns the values of the parameters, in order.
     pub fn params(&self) -> &Vec<PathAndJson<'rc>>
         ensures { map path_and_data result.now.items ≡ (tag_view self.now).call.params }
     {
         &self.params
     }
 
-    /// The value of a parameter, counted from 0.
+    /// Returns the value of a parameter, counted from 0, or `None` if the tag has no such parameter.
     pub fn param(&self, idx: usize) -> Option<&PathAndJson<'rc>>
         ensures { option_map (λ p. path_and_data p.now) result ≡ param_at idx (tag_view self.now).call }
     {
         self.params.get(idx)
     }
 
-    /// The values of its pairs, by key.
+    /// Returns the values of the hash arguments, by key.
     pub fn hash(&self) -> &BTreeMap<&'rc str, PathAndJson<'rc>>
-        ensures { map (λ e. (e.0.now, path_and_data e.1)) result.now.entries ≡ (tag_view self.now).call.pairs }
+        ensures { map (λ e. (e.0.now, path_and_data e.1)) result.now.entries ≡ (tag_view self.now).call.hash }
     {
         &self.hash
     }
 
-    /// The value of the pair with this key.
+    /// Returns the value of the hash argument with this key, or `None` if there is none.
     pub fn hash_get(&self, key: &str) -> Option<&PathAndJson<'rc>>
-        ensures { option_map (λ p. path_and_data p.now) result ≡ pair_at key.now (tag_view self.now).call }
+        ensures { option_map (λ p. path_and_data p.now) result ≡ hash_at key.now (tag_view self.now).call }
     {
         self.hash.get(key)
     }
 
-    /// The body of a block.
+    /// Returns the body of a block.
     pub fn template(&self) -> Option<&'rc Template>
         ensures { body_of (option_map (λ t. tree_view t.now) result) ≡ (tag_view self.now).body }
     {
         self.template
     }
 
-    /// The indentation in force where the tag stands, followed by the tag's own, if there is any.
+    /// Returns the indentation in force at the tag, followed by the tag's own, if there is any.
     pub fn indent(&self) -> Option<&str>
         ensures { option_map (λ t. t.now) result ≡ (tag_view self.now).indent }
     {

@@ -1,66 +1,71 @@
-//! What is asked of decorators and of inclusions beside their names.
+//! What is required of decorators and of inclusions besides their names.
 
 ghost use Rattle.std.specs.Prelude.{[], OnOk, option_map, unwrap_or};
-ghost use Rattle.handlebars_template.specs.Tree.{lacks_pairs};
-ghost use Rattle.handlebars_template.specs.TreeView.{pairs_view, params_view, text};
-ghost use Rattle.handlebars_markup.specs.Blind.{marks_in};
-ghost use Rattle.handlebars_markup.specs.Faults.{inclusion_pairs, unless, whys_of_first, whys_of_marks};
-ghost use Rattle.handlebars_markup.specs.FaultsView.{Finds, faults_in};
+ghost use Rattle.handlebars_base.specs.EscapeLaws.{marks_in};
+ghost use Rattle.handlebars_template.specs.Tree.{lacks_hash};
+ghost use Rattle.handlebars_template.specs.TreeView.{hash_view, params_view, text};
+ghost use Rattle.handlebars_markup.specs.Faults.{inclusion_hash, unless, whys_of_first, whys_of_marks};
+ghost use Rattle.handlebars_markup.specs.FaultsView.{AddsFindings, faults_in};
 
 use super::blind::has_marks;
-use super::spot::{Cause, Spot, push_fault};
+use super::location::{Cause, Location, push_fault};
 use crate::fault::MarkupFault;
 use handlebars_template::template::Parameter;
 use std::alloc::{AllocError, Global};
 use std::collections::BTreeMap;
 
-/// With the first parameter of a decorator, if there is one: it is a literal.
+/// Adds what is wrong with the first parameter of a decorator, if there is one: it has to be a literal.
 pub fn check_first(
     params: &Vec<Parameter>,
     alloc: Global,
-    spot: Spot<'_>,
+    location: Location<'_>,
     faults: &mut Vec<MarkupFault>,
 ) -> Result<(), AllocError>
-    ensures { OnOk result (Finds faults.old.items faults.new.items
-        (faults_in spot.entry (whys_of_first (params_view params.now.items)))) }
+    ensures { OnOk result (AddsFindings faults.old.items faults.new.items
+        (faults_in location.entry (whys_of_first (params_view params.now.items)))) }
 {
     match params.first() {
         Some(Parameter::Literal(_)) => Ok(()),
-        Some(Parameter::Name(_)) => push_fault(alloc, spot, Cause::NameFromValue, faults),
-        Some(Parameter::Path(_)) => push_fault(alloc, spot, Cause::NameFromValue, faults),
-        Some(Parameter::Subexpression(_)) => push_fault(alloc, spot, Cause::NameFromValue, faults),
+        Some(Parameter::Name(_)) => push_fault(alloc, location, Cause::NameFromValue, faults),
+        Some(Parameter::Path(_)) => push_fault(alloc, location, Cause::NameFromValue, faults),
+        Some(Parameter::Subexpression(_)) => push_fault(
+            alloc,
+            location,
+            Cause::NameFromValue,
+            faults,
+        ),
         None => Ok(()),
     }
 }
 
-/// With the pairs of an inclusion: there are none.
-pub fn check_no_pairs(
-    pairs: &BTreeMap<String, Parameter>,
+/// Adds what is wrong with the hash arguments of an inclusion: there must be none.
+pub fn check_no_hash(
+    hash: &BTreeMap<String, Parameter>,
     alloc: Global,
-    spot: Spot<'_>,
+    location: Location<'_>,
     faults: &mut Vec<MarkupFault>,
 ) -> Result<(), AllocError>
-    ensures { OnOk result (Finds faults.old.items faults.new.items
-        (faults_in spot.entry (unless (lacks_pairs (pairs_view pairs.now.entries)) inclusion_pairs))) }
+    ensures { OnOk result (AddsFindings faults.old.items faults.new.items
+        (faults_in location.entry (unless (lacks_hash (hash_view hash.now.entries)) inclusion_hash))) }
 {
-    if pairs.is_empty() {
+    if hash.is_empty() {
         return Ok(());
     }
-    push_fault(alloc, spot, Cause::InclusionPairs, faults)
+    push_fault(alloc, location, Cause::InclusionHash, faults)
 }
 
-/// With the indentation of an inclusion, if it has one: it has no marks.
+/// Adds what is wrong with the indentation of an inclusion, if it has one: it must have no marks.
 pub fn check_indent(
     indent: &Option<String>,
     alloc: Global,
-    spot: Spot<'_>,
+    location: Location<'_>,
     faults: &mut Vec<MarkupFault>,
 ) -> Result<(), AllocError>
-    ensures { OnOk result (Finds faults.old.items faults.new.items
-        (faults_in spot.entry (whys_of_marks (marks_in (unwrap_or (option_map text indent.now) []))))) }
+    ensures { OnOk result (AddsFindings faults.old.items faults.new.items
+        (faults_in location.entry (whys_of_marks (marks_in (unwrap_or (option_map text indent.now) []))))) }
 {
     match indent {
-        Some(indent) => check_indentation(indent.as_str(), alloc, spot, faults),
+        Some(indent) => check_indentation(indent.as_str(), alloc, location, faults),
         None => Ok(()),
     }
 }
@@ -68,14 +73,14 @@ pub fn check_indent(
 fn check_indentation(
     indent: &str,
     alloc: Global,
-    spot: Spot<'_>,
+    location: Location<'_>,
     faults: &mut Vec<MarkupFault>,
 ) -> Result<(), AllocError>
-    ensures { OnOk result (Finds faults.old.items faults.new.items
-        (faults_in spot.entry (whys_of_marks (marks_in indent.now)))) }
+    ensures { OnOk result (AddsFindings faults.old.items faults.new.items
+        (faults_in location.entry (whys_of_marks (marks_in indent.now)))) }
 {
     if has_marks(indent) {
-        return push_fault(alloc, spot, Cause::MarkedIndent, faults);
+        return push_fault(alloc, location, Cause::MarkedIndent, faults);
     }
     Ok(())
 }

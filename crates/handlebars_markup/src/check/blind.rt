@@ -2,19 +2,20 @@
 
 ghost use Rattle.std.specs.Prelude.{◌≡◌, not};
 ghost use Rattle.handlebars_base.specs.Bytes.{Text};
+ghost use Rattle.handlebars_base.specs.EscapeLaws.{is_mark, marks_in};
 ghost use Rattle.handlebars_helpers.specs.DecoratorsView.{decorator_called};
-ghost use Rattle.handlebars_helpers.specs.OwnView.{callee_of};
-ghost use Rattle.handlebars_helpers.specs.View.{kind_of};
-ghost use Rattle.handlebars_markup.specs.Blind.{calls_blind, decorates_blind, is_blind, is_blind_callee, is_blind_decorator, is_mark, marks_in};
+ghost use Rattle.handlebars_helpers.specs.UserView.{callee_of};
+ghost use Rattle.handlebars_helpers.specs.View.{built_in_kind};
+ghost use Rattle.handlebars_markup.specs.Blind.{calls_blind, decorates_blind, is_blind, is_blind_callee, is_blind_decorator};
 ghost use Rattle.handlebars_markup.specs.Faults.{marked_indent, unless, whys_of_marks};
 
 use handlebars_helpers::built_in::BuiltIn;
 use handlebars_helpers::decorators::DecoratorKind;
-use handlebars_helpers::entries::OwnParts;
-use handlebars_helpers::own::Callee;
+use handlebars_helpers::entries::UserParts;
+use handlebars_helpers::user::Callee;
 
-/// Whether what stands under a name of helpers, if anything does, chooses by no text.
-pub fn calls_blind<E: OwnParts>(entries: &E, name: &str) -> bool
+/// Returns whether what is registered under a name of helpers, if anything is, makes no choice by a text.
+pub fn calls_blind<E: UserParts>(entries: &E, name: &str) -> bool
     ensures { result ≡ calls_blind (E.registered entries.now) name.now }
 {
     match entries.helper(name) {
@@ -23,8 +24,8 @@ pub fn calls_blind<E: OwnParts>(entries: &E, name: &str) -> bool
     }
 }
 
-/// Whether what stands under a name of decorators, if anything does, is `inline`.
-pub fn decorates_blind<E: OwnParts>(entries: &E, name: &str) -> bool
+/// Returns whether what is registered under a name of decorators, if anything is, is `inline`.
+pub fn decorates_blind<E: UserParts>(entries: &E, name: &str) -> bool
     ensures { result ≡ decorates_blind (E.registered entries.now) name.now }
 {
     match entries.decorator(name) {
@@ -33,7 +34,7 @@ pub fn decorates_blind<E: OwnParts>(entries: &E, name: &str) -> bool
     }
 }
 
-/// Whether an indentation has marks of html.
+/// Returns whether an indentation has marks of html.
 pub fn has_marks(text: &str) -> bool
     ensures { whys_of_marks (marks_in text.now) ≡ unless (not result) marked_indent }
 {
@@ -64,7 +65,7 @@ fn is_blind_decorator(kind: DecoratorKind) -> bool
 }
 
 fn is_blind(kind: BuiltIn) -> bool
-    ensures { result ≡ is_blind (kind_of kind) }
+    ensures { result ≡ is_blind (built_in_kind kind) }
 {
     match kind {
         BuiltIn::If => true,

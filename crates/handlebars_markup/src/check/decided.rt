@@ -1,4 +1,4 @@
-//! What the faults that are told decide, for callers to cite.
+//! What the faults that are reported decide, for callers to cite.
 
 ghost use Rattle.handlebars_markup.specs.Faults.{DecideParts, DecideTrees};
 

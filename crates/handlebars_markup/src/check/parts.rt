@@ -2,24 +2,24 @@
 
 ghost use Rattle.std.specs.Prelude.{◌≡◌, ◌∷◌, [], None, OnOk};
 ghost use Rattle.handlebars_helpers.specs.EscapeView.{escaping_of};
-ghost use Rattle.handlebars_meaning.specs.State.{hook};
+ghost use Rattle.handlebars_semantics.specs.State.{hook};
 ghost use Rattle.handlebars_markup.specs.Faults.{faults_at, whys_of_escape, whys_of_hook};
-ghost use Rattle.handlebars_markup.specs.FaultsView.{Finds, cause_why};
+ghost use Rattle.handlebars_markup.specs.FaultsView.{AddsFindings, cause_why};
 
 use super::blind::calls_blind;
-use super::spot::{Cause, Spot, push_fault};
+use super::location::{Cause, Location, push_fault};
 use crate::fault::MarkupFault;
-use handlebars_helpers::entries::OwnParts;
+use handlebars_helpers::entries::UserParts;
 use handlebars_helpers::escape::Escaping;
 use std::alloc::{AllocError, Global};
 
-/// With how values are escaped.
+/// Adds what is wrong with how values are escaped.
 pub fn check_escape(
     alloc: Global,
     escaping: Escaping,
     faults: &mut Vec<MarkupFault>,
 ) -> Result<(), AllocError>
-    ensures { OnOk result (Finds faults.old.items faults.new.items
+    ensures { OnOk result (AddsFindings faults.old.items faults.new.items
         (faults_at None None (whys_of_escape (escaping_of escaping)))) }
 {
     match escaping {
@@ -29,14 +29,14 @@ pub fn check_escape(
     }
 }
 
-/// With a hook: of blocks, or of other calls.
-pub fn check_hook<E: OwnParts>(
+/// Adds what is wrong with a hook: of blocks, or of other calls.
+pub fn check_hook<E: UserParts>(
     alloc: Global,
     entries: &E,
     block: bool,
     faults: &mut Vec<MarkupFault>,
 ) -> Result<(), AllocError>
-    ensures { OnOk result (Finds faults.old.items faults.new.items
+    ensures { OnOk result (AddsFindings faults.old.items faults.new.items
         (faults_at None None (whys_of_hook (E.registered entries.now) block))) }
 {
     let name = hook(block);
@@ -51,13 +51,13 @@ fn push_nowhere(
     cause: Cause<'_>,
     faults: &mut Vec<MarkupFault>,
 ) -> Result<(), AllocError>
-    ensures { OnOk result (Finds faults.old.items faults.new.items (faults_at None None (cause_why cause.entry ∷ []))) }
+    ensures { OnOk result (AddsFindings faults.old.items faults.new.items (faults_at None None (cause_why cause.entry ∷ []))) }
 {
-    let spot = Spot {
+    let location = Location {
         template_name: None,
-        place: None,
+        position: None,
     };
-    push_fault(alloc, spot, cause, faults)
+    push_fault(alloc, location, cause, faults)
 }
 
 // The name of the hook.

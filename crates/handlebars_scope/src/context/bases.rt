@@ -1,35 +1,35 @@
-//! What is lent to blocks of scope: values as their bases, so that nobody copies them, and the nodes of the data that their
-//! base paths lead to, so that nobody walks there again.
+//! What scope frames borrow: values as their bases, which therefore aren't copied, and the nodes of the data that their base
+//! paths lead to, which therefore aren't looked up again.
 
 ghost use Rattle.std.specs.Prelude.{◌≡◌, ◌∷◌, [], option_map};
 ghost use Rattle.serde_json.specs.View.{view};
-ghost use Rattle.handlebars_scope.specs.Bases.{bases_of, lent_behind, lent_up, node_of, nodes_of};
+ghost use Rattle.handlebars_scope.specs.Bases.{bases_of, borrowed_after, borrowed_up, node_of, nodes_of};
 
 use handlebars_base::json::value::Json;
 
-/// What is lent to the blocks of scope of a rendering, nearest first.
+/// What the scope frames of a rendering borrow, nearest first.
 #[derive(Clone, Copy)]
 pub enum Bases<'r, 'a> {
-    /// Nothing is lent to further blocks.
+    /// Further blocks borrow nothing.
     Outside,
-    /// What is lent to a block, and to the blocks around it.
+    /// What a block borrows, and what the blocks around it borrow.
     Block {
-        lent: Lent<'r, 'a>,
+        borrowed: BorrowedBase<'r, 'a>,
         outer: &'r Bases<'r, 'a>,
     },
 }
 
-/// What is lent to one block.
+/// What one block borrows.
 #[derive(Clone, Copy)]
-pub struct Lent<'r, 'a> {
-    /// The value that paths lead from, in the place of the block's own, if there is one.
+pub struct BorrowedBase<'r, 'a> {
+    /// The value that paths lead from instead of the block's own base, if there is one.
     pub base: Option<&'r Json>,
-    /// The value of the data that the block's base path leads to, where that is known.
+    /// The value of the data that the block's base path leads to, if that is known.
     pub node: Option<&'a Json>,
 }
 
 impl<'r, 'a> Bases<'r, 'a> {
-    /// Nothing is lent.
+    /// Creates bases of which nothing is borrowed.
     pub fn outside() -> Bases<'r, 'a>
         ensures bases { bases_of result ≡ [] }
         ensures nodes { nodes_of result ≡ [] }
@@ -37,7 +37,7 @@ impl<'r, 'a> Bases<'r, 'a> {
         Bases::Outside
     }
 
-    /// This value is lent to one more block, or none, and this node, or none.
+    /// Adds a nearest block, which borrows this value or none, and this node or none.
     pub fn block(
         base: Option<&'r Json>,
         node: Option<&'a Json>,
@@ -47,38 +47,38 @@ impl<'r, 'a> Bases<'r, 'a> {
         ensures nodes { nodes_of result ≡ option_map (λ v. view v.now) node.entry ∷ nodes_of outer.now }
     {
         Bases::Block {
-            lent: Lent { base, node },
+            borrowed: BorrowedBase { base, node },
             outer,
         }
     }
 
-    /// What is lent to the block so many blocks up. Goes to it one by one.
-    pub fn up(&self, blocks: usize) -> Lent<'r, 'a>
-        ensures base { option_map (λ v. view v.now) result.base ≡ lent_up (bases_of self.now) blocks }
-        ensures node { node_of result ≡ lent_up (nodes_of self.now) blocks }
+    /// Returns what the block this many blocks up borrows. Runs in time linear in `blocks`.
+    pub fn up(&self, blocks: usize) -> BorrowedBase<'r, 'a>
+        ensures base { option_map (λ v. view v.now) result.base ≡ borrowed_up (bases_of self.now) blocks }
+        ensures node { node_of result ≡ borrowed_up (nodes_of self.now) blocks }
     {
         let mut here = self;
         let mut left = blocks;
-        while let Bases::Block { lent, outer } = here {
+        while let Bases::Block { borrowed, outer } = here {
             if left == 0 {
-                return *lent;
+                return *borrowed;
             }
             left -= 1;
             here = outer;
         }
-        Lent {
+        BorrowedBase {
             base: None,
             node: None,
         }
     }
 
-    /// What is lent to the blocks behind the nearest one.
-    pub fn behind(&self) -> &Bases<'r, 'a>
-        ensures bases { bases_of result.now ≡ lent_behind (bases_of self.now) }
-        ensures nodes { nodes_of result.now ≡ lent_behind (nodes_of self.now) }
+    /// Returns what the blocks after the nearest one borrow.
+    pub fn after(&self) -> &Bases<'r, 'a>
+        ensures bases { bases_of result.now ≡ borrowed_after (bases_of self.now) }
+        ensures nodes { nodes_of result.now ≡ borrowed_after (nodes_of self.now) }
     {
         match self {
-            Bases::Block { lent: _, outer } => outer,
+            Bases::Block { borrowed: _, outer } => outer,
             Bases::Outside => self,
         }
     }

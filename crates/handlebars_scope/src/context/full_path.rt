@@ -3,13 +3,14 @@
 ghost use Rattle.std.specs.Prelude.{◌≡◌, ◌++◌, ◌∷◌, [], IfOk, OnOk, string_bytes};
 ghost use Rattle.handlebars_base.specs.PathView.{segments_of};
 ghost use Rattle.handlebars_scope.specs.Resolve.{names_of};
-ghost use Rattle.handlebars_scope.specs.WayView.{lent_names, names_in, names_on};
+ghost use Rattle.handlebars_scope.specs.ResolutionView.{borrowed_names, names_in, names_on};
 
 use handlebars_base::json::path::PathSeg;
 use std::alloc::{AllocError, Global};
 use std::slice;
 
-/// The names that lead to a value from the data. They are lent: those of a base path, of what is bound below it, and of segments.
+/// The names that lead from the data to a value. They are borrowed from a base path, from what is bound below it, and from
+/// segments.
 #[derive(Clone, Copy)]
 pub struct FullPath<'n> {
     base: &'n [String],
@@ -18,7 +19,7 @@ pub struct FullPath<'n> {
 }
 
 impl<'n> FullPath<'n> {
-    /// These names.
+    /// Creates a full path of these names.
     pub fn of(names: &'n [String]) -> FullPath<'n>
         ensures { names_on result ≡ names_in names.now }
     {
@@ -29,7 +30,7 @@ impl<'n> FullPath<'n> {
         }
     }
 
-    /// The names of a base path, of what is bound below it, and of segments.
+    /// Creates a full path of the names of a base path, of what is bound below it, and of segments.
     pub(super) fn joined(
         base: &'n [String],
         bound: &'n [String],
@@ -40,29 +41,37 @@ impl<'n> FullPath<'n> {
         FullPath { base, bound, rest }
     }
 
-    /// The names of a front of a base path, and a name.
-    pub(super) fn front(kept: &'n [String], name: &'n String) -> FullPath<'n>
-        ensures { names_on result ≡ names_in kept.now ++ string_bytes name.now ∷ [] }
+    /// Creates a full path of the names of a prefix of a base path, and a name.
+    pub(super) fn prefix(retained: &'n [String], name: &'n String) -> FullPath<'n>
+        ensures { names_on result ≡ names_in retained.now ++ string_bytes name.now ∷ [] }
     {
         FullPath {
-            base: kept,
+            base: retained,
             bound: slice::from_ref(name),
             rest: &[],
         }
     }
 
-    /// Its names, lent, from the data to the value.
+    /// Returns its names, borrowed, from the data to the value.
+    ///
+    /// # Errors
+    ///
+    /// Fails if memory runs out.
     pub fn names(&self, alloc: Global) -> Result<Vec<&'n str>, AllocError>
-        ensures { IfOk result (λ names. lent_names names.items ≡ names_on self.now) }
+        ensures { IfOk result (λ names. borrowed_names names.items ≡ names_on self.now) }
     {
         let mut names = Vec::new(alloc);
-        lend_names(&mut names, self.base)?;
-        lend_names(&mut names, self.bound)?;
-        lend_segments(&mut names, self.rest)?;
+        borrow_names(&mut names, self.base)?;
+        borrow_names(&mut names, self.bound)?;
+        borrow_segments(&mut names, self.rest)?;
         Ok(names)
     }
 
-    /// A copy of its names.
+    /// Returns a copy of its names.
+    ///
+    /// # Errors
+    ///
+    /// Fails if memory runs out.
     pub fn copied(&self, alloc: Global) -> Result<Vec<String>, AllocError>
         ensures { IfOk result (λ path. names_in path.items ≡ names_on self.now) }
     {
@@ -70,8 +79,8 @@ impl<'n> FullPath<'n> {
     }
 }
 
-fn lend_names<'n>(names: &mut Vec<&'n str>, more: &'n [String]) -> Result<(), AllocError>
-    ensures { OnOk result (lent_names names.new.items ≡ lent_names names.old.items ++ names_in more.now) }
+fn borrow_names<'n>(names: &mut Vec<&'n str>, more: &'n [String]) -> Result<(), AllocError>
+    ensures { OnOk result (borrowed_names names.new.items ≡ borrowed_names names.old.items ++ names_in more.now) }
 {
     for name in more {
         names.push(name.as_str())?;
@@ -80,8 +89,8 @@ fn lend_names<'n>(names: &mut Vec<&'n str>, more: &'n [String]) -> Result<(), Al
 }
 
 // Adds the names of segments.
-fn lend_segments<'n>(names: &mut Vec<&'n str>, segments: &'n [PathSeg]) -> Result<(), AllocError>
-    ensures { OnOk result (lent_names names.new.items ≡ lent_names names.old.items ++ names_of (segments_of segments.now)) }
+fn borrow_segments<'n>(names: &mut Vec<&'n str>, segments: &'n [PathSeg]) -> Result<(), AllocError>
+    ensures { OnOk result (borrowed_names names.new.items ≡ borrowed_names names.old.items ++ names_of (segments_of segments.now)) }
 {
     for segment in segments {
         match segment {
@@ -92,17 +101,25 @@ fn lend_segments<'n>(names: &mut Vec<&'n str>, segments: &'n [PathSeg]) -> Resul
     Ok(())
 }
 
-/// The names of a front of a base path, and a name.
-pub fn front(alloc: Global, kept: &[String], name: &String) -> Result<Vec<String>, AllocError>
-    ensures { IfOk result (λ path. names_in path.items ≡ names_in kept.now ++ string_bytes name.now ∷ []) }
+/// Returns copies of the names of a prefix of a base path, and of a name.
+///
+/// # Errors
+///
+/// Fails if memory runs out.
+pub fn prefix(alloc: Global, retained: &[String], name: &String) -> Result<Vec<String>, AllocError>
+    ensures { IfOk result (λ path. names_in path.items ≡ names_in retained.now ++ string_bytes name.now ∷ []) }
 {
     let mut path = Vec::new(alloc);
-    push_names(&mut path, kept)?;
+    push_names(&mut path, retained)?;
     path.push(name.clone()?)?;
     Ok(path)
 }
 
-/// The names of a base path, of what is bound below it, and of segments.
+/// Returns copies of the names of a base path, of what is bound below it, and of segments.
+///
+/// # Errors
+///
+/// Fails if memory runs out.
 pub fn joined(
     alloc: Global,
     base: &[String],

@@ -1,24 +1,24 @@
-//! What paths lead to, with the full path of a value of the data. Nothing is copied.
+//! What paths lead to, with the full path if the value is one of the data. Nothing is copied.
 
 ghost use Rattle.std.specs.Prelude.{◌≡◌, ◌++◌, option_map, string_bytes};
 ghost use Rattle.serde_json.specs.View.{view};
 ghost use Rattle.handlebars_base.specs.Answers.{answer_map, gives};
 ghost use Rattle.handlebars_base.specs.PathView.{reference_of, segments_of};
-ghost use Rattle.handlebars_scope.specs.Bases.{IsNode, NodesLead, bases_of, lend, nodes_of};
+ghost use Rattle.handlebars_scope.specs.Bases.{IsNode, NodesLead, bases_of, with_borrowed, nodes_of};
 ghost use Rattle.handlebars_scope.specs.Located.{located_of};
-ghost use Rattle.handlebars_scope.specs.Resolve.{along, found_by, found_front, found_within, longest, names_of, resolve, value_at};
+ghost use Rattle.handlebars_scope.specs.Resolve.{along, found_by, found_prefix, found_within, longest, names_of, resolve, value_at};
 ghost use Rattle.handlebars_scope.specs.ScopeView.{frames_of};
-ghost use Rattle.handlebars_scope.specs.WayView.{IsFromNode, names_in, way_view};
+ghost use Rattle.handlebars_scope.specs.ResolutionView.{IsFromNode, names_in, resolution_view};
 
 use crate::block::BlockContext;
 use crate::context::bases::Bases;
-use crate::context::fronts::longest;
 use crate::context::full_path::FullPath;
 use crate::context::looked_up::LookedUp;
 use crate::context::members::along_segments;
+use crate::context::prefixes::longest;
 use crate::context::reached::Reached;
+use crate::context::resolution::{Resolution, resolution_of};
 use crate::context::walk::{along, variable_at};
-use crate::context::way::{Way, way_of};
 use handlebars_base::json::path::{Path, PathSeg};
 use handlebars_base::json::value::Json;
 use std::collections::VecDeque;
@@ -26,14 +26,14 @@ use std::collections::VecDeque;
 /// What a path leads to.
 #[derive(Clone, Copy)]
 pub enum Located<'v, 'n> {
-    /// A value, with its full path where it is one of the data.
+    /// A value, with its full path if it is one of the data.
     Value(&'v Json, Option<FullPath<'n>>),
     Nothing,
-    /// This name is no index, and an array was come to.
+    /// This name isn't an index, and it was looked up in an array.
     NoIndex(&'n str),
 }
 
-/// What a path leads to, or why there is no value, of which no refusal is made yet.
+/// Returns what a path leads to, or why there is no value. Creates no error yet.
 pub fn locate<'v: 'n, 'n>(
     given: &'v Json,
     path: &'n Path,
@@ -43,35 +43,39 @@ pub fn locate<'v: 'n, 'n>(
     looked_up: &LookedUp,
 ) -> Located<'v, 'n>
     requires nodes { NodesLead (nodes_of bases.now) (frames_of blocks.now.items) (view given.now) }
-    ensures { located_of result ≡ resolve recursive (lend (bases_of bases.now) (frames_of blocks.now.items))
+    ensures { located_of result ≡ resolve recursive (with_borrowed (bases_of bases.now) (frames_of blocks.now.items))
         (reference_of path.now) (view given.now) }
 {
     match path {
         Path::Relative((segments, _)) => {
-            located_by(given, way_of(blocks, bases, segments, recursive), looked_up)
+            located_by(
+                given,
+                resolution_of(blocks, bases, segments, recursive),
+                looked_up,
+            )
         }
         Path::Local((level, name, _)) => held(variable_at(blocks, *level, name.as_str())),
     }
 }
 
-// What stands at the end of a way.
+// Returns what a resolution leads to.
 fn located_by<'v: 'n, 'n>(
     given: &'v Json,
-    way: Way<'v, 'n, 'v>,
+    resolution: Resolution<'v, 'n, 'v>,
     looked_up: &LookedUp,
 ) -> Located<'v, 'n>
-    requires node { IsFromNode (view given.now) way }
-    ensures { located_of result ≡ found_by (way_view way.entry) (view given.now) }
+    requires node { IsFromNode (view given.now) resolution }
+    ensures { located_of result ≡ found_by (resolution_view resolution.entry) (view given.now) }
 {
-    match way {
-        Way::Within(held, rest) => located_within(held, rest),
-        Way::Along {
+    match resolution {
+        Resolution::Within(held, rest) => located_within(held, rest),
+        Resolution::Along {
             node,
             base,
             bound,
             rest,
         } => located_along(given, node, base, bound, rest, looked_up),
-        Way::UnderFront(base, name) => located_front(given, base, name, looked_up),
+        Resolution::UnderPrefix(base, name) => located_prefix(given, base, name, looked_up),
     }
 }
 
@@ -106,17 +110,20 @@ fn located_along<'v, 'n>(
     }
 }
 
-fn located_front<'v, 'n>(
+fn located_prefix<'v, 'n>(
     given: &'v Json,
     base: &'n [String],
     name: &'n String,
     looked_up: &LookedUp,
 ) -> Located<'v, 'n>
-    ensures { located_of result ≡ gives (found_front (names_in base.now) (string_bytes name.now)
+    ensures { located_of result ≡ gives (found_prefix (names_in base.now) (string_bytes name.now)
         (longest (view given.now) (names_in base.now) (string_bytes name.now))) }
 {
     match longest(given, base, name, looked_up) {
-        Some((kept, value)) => Located::Value(value, Some(FullPath::front(&base[..kept], name))),
+        Some((retained, value)) => Located::Value(
+            value,
+            Some(FullPath::prefix(&base[..retained], name)),
+        ),
         None => Located::Nothing,
     }
 }

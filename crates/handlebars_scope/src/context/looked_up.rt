@@ -1,28 +1,28 @@
-//! How many members of the data are looked up.
+//! The number of members of the data that are looked up.
 
 use std::cell::Cell;
 
-/// A count of members that are looked up. It stays at 2^64 - 1 once it is there.
+/// A count of the members that are looked up. It saturates at 2^64 - 1.
 #[derive(Drop)]
 pub struct LookedUp {
     members: Cell<u64>,
 }
 
 impl LookedUp {
-    /// None is looked up yet.
+    /// Creates a count of zero.
     pub fn new() -> LookedUp {
         LookedUp {
             members: Cell::new(0),
         }
     }
 
-    /// So many more are looked up.
+    /// Adds this many members to the count.
     pub fn add(&self, members: usize) {
         self.members
             .set(self.members.get().saturating_add(members as u64));
     }
 
-    /// How many are looked up.
+    /// Returns the count.
     pub fn members(&self) -> u64 {
         self.members.get()
     }

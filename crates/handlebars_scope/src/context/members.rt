@@ -5,14 +5,14 @@ ghost use Rattle.std.specs.Char.{digit_value};
 ghost use Rattle.serde_json.specs.View.{view};
 ghost use Rattle.handlebars_base.specs.PathView.{segments_of};
 ghost use Rattle.handlebars_scope.specs.Resolve.{if_any, index_of, member_at, names_of, value_at};
-ghost use Rattle.handlebars_scope.specs.WayView.{names_in, reached_of};
+ghost use Rattle.handlebars_scope.specs.ResolutionView.{names_in, reached_of};
 
 use crate::context::reached::Reached;
 use handlebars_base::json::path::PathSeg;
 use handlebars_base::json::value::Json;
 
-/// What is bound below a node, and the names of segments behind that, lead to, or why there is no value; and how many
-/// members are looked up for it, at most one for each name.
+/// Returns what names lead to from a node, or why there is no value, and the number of members that are looked up, at most
+/// one for each name. The names are those of what is bound below the node, and then those of segments.
 #[inline(always)]
 pub fn enter<'v, 'n>(
     node: &'v Json,
@@ -32,7 +32,7 @@ pub fn enter<'v, 'n>(
     }
 }
 
-/// What names lead to, and how many members are looked up.
+/// Returns what names lead to, and the number of members that are looked up.
 #[inline(always)]
 pub fn along_names<'v, 'n>(given: &'v Json, names: &'n [String]) -> (Reached<'v, 'n>, usize)
     ensures reached { reached_of result.0 ≡ value_at (view given.now) (names_in names.now) }
@@ -48,7 +48,7 @@ pub fn along_names<'v, 'n>(given: &'v Json, names: &'n [String]) -> (Reached<'v,
     (Reached::Value(here), names.len())
 }
 
-/// What the names of segments lead to, and how many members are looked up; other segments add nothing.
+/// Returns what the names of segments lead to, and the number of members that are looked up. Other segments add nothing.
 #[inline(always)]
 pub fn along_segments<'v, 'n>(given: &'v Json, segments: &'n [PathSeg]) -> (Reached<'v, 'n>, usize)
     ensures reached { reached_of result.0 ≡ value_at (view given.now) (names_of (segments_of segments.now)) }
@@ -71,7 +71,7 @@ pub fn along_segments<'v, 'n>(given: &'v Json, segments: &'n [PathSeg]) -> (Reac
     (Reached::Value(here), looked_up)
 }
 
-/// The value one name further, where there is one. A name that is no index of an array counts as missing.
+/// Returns the value that one name leads to, if there is one. A name that isn't an index of an array counts as missing.
 pub fn value_by_name<'v>(value: &'v Json, name: &String) -> Option<&'v Json>
     ensures { option_map (λ v. view v.now) result ≡ if_any (member_at (view value.now) (string_bytes name.now)) }
 {
@@ -85,7 +85,7 @@ pub fn value_by_name<'v>(value: &'v Json, name: &String) -> Option<&'v Json>
     }
 }
 
-// Why there is no value one name further.
+// Returns why one name leads to no value.
 #[inline(never)]
 fn unreached<'v, 'n>(value: &'v Json, name: &'n String) -> Reached<'v, 'n>
     ensures { if_any (member_at (view value.now) (string_bytes name.now)) ≡ None
@@ -109,7 +109,7 @@ fn index_of(text: &str) -> Option<usize>
     }
 }
 
-// The index that a usual name is, which has one to four digits.
+// Returns the index of a name of one to four digits, as is usual.
 fn short_index(name: &[u8]) -> Option<usize>
     ensures { IfSome result (λ index. index_of name.now ≡ Some index) }
 {
@@ -127,7 +127,7 @@ fn short_index(name: &[u8]) -> Option<usize>
     }
 }
 
-// The value of an ASCII digit.
+// Returns the value of an ASCII digit.
 fn digit(byte: u8) -> Option<usize>
     ensures { IfSome result (λ value. (value ≡ digit_value byte) × (value < 10)) }
 {

@@ -1,4 +1,4 @@
-//! The range of numbers that data may have.
+//! The range of numbers that data may contain.
 
 ghost use Rattle.std.specs.Prelude.{◌≡◌};
 ghost use Rattle.serde_json.specs.View.{view, items_view, members_view};
@@ -7,7 +7,7 @@ ghost use Rattle.serde_json.specs.Written.{has_float, items_have_float, members_
 use handlebars_base::json::value::Json;
 use serde_json::Map;
 
-// Whether a number is outside the range: serde_json holds each such number as a float.
+// Returns whether a number is outside the range. serde_json stores each such number as a float.
 #[cycle(range)]
 pub fn has_float(value: &Json) -> bool
     ensures { result ≡ has_float (view value.now) }

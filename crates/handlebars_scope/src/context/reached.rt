@@ -1,32 +1,32 @@
-//! What the names of a path reach, before a refusal is made of it.
+//! What the names of a path reach, before an error is created.
 
 ghost use Rattle.std.specs.Prelude.{◌≡◌, ◌≢◌, option_map};
 ghost use Rattle.serde_json.specs.View.{view};
-ghost use Rattle.handlebars_base.specs.Answers.{Answer, Answers, IsRefusal, gives, refuses};
+ghost use Rattle.handlebars_base.specs.Answers.{Answer, Answers, IsRefusal, gives, fails};
 ghost use Rattle.handlebars_base.specs.Reasons.{invalid_json_index, out_of_memory};
 ghost use Rattle.handlebars_base.specs.RenderRefusals.{plain_refusal, reason_in, refusal_of};
 ghost use Rattle.handlebars_base.specs.Scoped.{Found};
 ghost use Rattle.handlebars_scope.specs.Seeking.{IsWhy};
-ghost use Rattle.handlebars_scope.specs.WayView.{reached_of};
+ghost use Rattle.handlebars_scope.specs.ResolutionView.{reached_of};
 
 use handlebars_base::error::{RenderError, RenderErrorReason};
 use handlebars_base::json::value::Json;
 use std::alloc::{AllocError, Global};
 
-/// What names reach. It is handed on at each of them, so it is small: a `RenderError` is large, and is
-/// made once, at the end.
+/// What names reach. It is passed on at each name, so it is small. A `RenderError` is large, and is created once, at the
+/// end.
 #[derive(Clone, Copy)]
 pub enum Reached<'v, 'n> {
     Value(&'v Json),
     Nothing,
-    /// This name is no index, and an array was come to.
+    /// This name isn't an index, and it was looked up in an array.
     NoIndex(&'n str),
 }
 
-/// Why the value of a path isn't told. It is handed on as what names reach is, so it is small too.
+/// Why a path has no result. It is passed on like `Reached`, so it is small too.
 #[derive(Clone, Copy)]
 pub enum Unfound<'n> {
-    /// This name is no index, and an array was come to.
+    /// This name isn't an index, and it was looked up in an array.
     NoIndex(&'n str),
     OutOfMemory,
 }
@@ -43,12 +43,12 @@ impl<'n> From<AllocError> for Unfound<'n> {
 }
 
 impl<'n> Unfound<'n> {
-    /// The error of it.
+    /// Creates the error.
     #[cold]
     #[inline(never)]
     pub fn into_error(self, alloc: Global) -> RenderError
         ensures { (sought : Answer Found) → IsWhy self.entry sought → reason_in result ≢ out_of_memory
-            → sought ≡ refuses (refusal_of result) }
+            → sought ≡ fails (refusal_of result) }
     {
         match self {
             Unfound::NoIndex(name) => wrong_index(alloc, name),
@@ -57,7 +57,7 @@ impl<'n> Unfound<'n> {
     }
 }
 
-/// What was found, if anything.
+/// Converts a value that was found, if any.
 pub fn if_found<'v, 'n>(found: Option<&'v Json>) -> Reached<'v, 'n>
     ensures { reached_of result ≡ gives (option_map (λ v. view v.now) found.entry) }
 {
@@ -67,7 +67,11 @@ pub fn if_found<'v, 'n>(found: Option<&'v Json>) -> Reached<'v, 'n>
     }
 }
 
-/// The value, or the refusal of the name.
+/// Returns the value, if there is one.
+///
+/// # Errors
+///
+/// Fails with `InvalidJsonIndex` for a name that isn't an index, and with `OutOfMemory` if memory runs out.
 pub fn answered<'v>(
     alloc: Global,
     reached: Reached<'v, '_>,
@@ -81,7 +85,7 @@ pub fn answered<'v>(
     }
 }
 
-/// The refusal of a name that is no index.
+/// Creates the error for a name that isn't an index: `InvalidJsonIndex`, or `OutOfMemory` if memory runs out.
 pub fn wrong_index(alloc: Global, name: &str) -> RenderError
     ensures { IsRefusal (plain_refusal (invalid_json_index name.now)) result }
 {

@@ -1,4 +1,4 @@
-//! Where paths lead in blocks of scope and data.
+//! Where paths lead in scope frames and data.
 
 ghost use Rattle.std.specs.Prelude.{◌≡◌, ◌++◌, None, Some, false, option_map, string_bytes};
 ghost use Rattle.std.specs.Prelude.{IfOk, IfSome};
@@ -7,30 +7,35 @@ ghost use Rattle.serde_json.specs.View.{view};
 ghost use Rattle.handlebars_base.specs.Answers.{Answers, answer_map, gives};
 ghost use Rattle.handlebars_base.specs.PathView.{reference_of, segments_of};
 ghost use Rattle.handlebars_base.specs.Scoped.{found_of, is_constant, present_in};
-ghost use Rattle.handlebars_scope.specs.Bases.{IsCurrent, IsNode, NodesLead, bases_of, lend, nodes_of};
-ghost use Rattle.handlebars_scope.specs.Placing.{IsPlaced};
-ghost use Rattle.handlebars_scope.specs.Resolve.{along, found_by, found_front, found_within, navigate, resolve, variable_at};
+ghost use Rattle.handlebars_scope.specs.Bases.{IsCurrent, IsNode, NodesLead, bases_of, with_borrowed, nodes_of};
+ghost use Rattle.handlebars_scope.specs.DataLookups.{IsDataLookup};
+ghost use Rattle.handlebars_scope.specs.Resolve.{along, found_by, found_prefix, found_within, navigate, resolve, variable_at};
 ghost use Rattle.handlebars_scope.specs.Resolve.{longest, names_of, value_at};
 ghost use Rattle.handlebars_scope.specs.ScopeView.{frame_of, frames_of};
 ghost use Rattle.handlebars_scope.specs.Seeking.{Seeks};
-ghost use Rattle.handlebars_scope.specs.WayView.{IsFromNode, names_in, reached_of, way_view};
+ghost use Rattle.handlebars_scope.specs.ResolutionView.{IsFromNode, names_in, reached_of, resolution_view};
 
 use crate::block::BlockContext;
 use crate::context::bases::Bases;
-use crate::context::fronts::longest;
-use crate::context::full_path::{front, joined};
+use crate::context::data_node::{DataLookup, DataNode};
+use crate::context::full_path::{joined, prefix};
 use crate::context::looked_up::LookedUp;
 use crate::context::members::{along_names, along_segments, enter};
-use crate::context::place::{Place, Placed};
+use crate::context::prefixes::longest;
 use crate::context::reached::{Reached, Unfound, answered, if_found};
-use crate::context::way::{Way, way_of};
+use crate::context::resolution::{Resolution, resolution_of};
 use handlebars_base::error::RenderError;
 use handlebars_base::json::path::{Path, PathSeg};
 use handlebars_base::json::value::{Json, ScopedJson};
 use std::alloc::{AllocError, Global};
 use std::collections::VecDeque;
 
-/// The value that a path leads to; none where it is missing. Nothing is copied.
+/// Returns the value that a path leads to, or `None` if it is missing. Copies nothing.
+///
+/// # Errors
+///
+/// Fails with `InvalidJsonIndex` for a name that isn't an index of an array, as the definition `resolve` says, and with
+/// `OutOfMemory` if memory runs out.
 pub fn resolve<'v>(
     alloc: Global,
     given: &'v Json,
@@ -42,7 +47,7 @@ pub fn resolve<'v>(
 ) -> Result<Option<&'v Json>, RenderError>
     ensures { Answers (option_map (λ v. view v.now)) result
         (answer_map present_in
-        (resolve recursive (lend (bases_of bases.now) (frames_of blocks.now.items)) (reference_of path.now)
+        (resolve recursive (with_borrowed (bases_of bases.now) (frames_of blocks.now.items)) (reference_of path.now)
         (view given.now))) }
 {
     answered(
@@ -51,8 +56,8 @@ pub fn resolve<'v>(
     )
 }
 
-/// The value that a path leads to, or why there is none, of which no refusal is made yet. It is walked from the node of its
-/// block, where that is lent one.
+/// Returns the value that a path leads to, or why there is none. Creates no error yet. Starts at the node of the path's
+/// block, if the block borrows one.
 pub fn reach<'v: 'n, 'n>(
     given: &'v Json,
     path: &'n Path,
@@ -63,19 +68,23 @@ pub fn reach<'v: 'n, 'n>(
 ) -> Reached<'v, 'n>
     requires nodes { NodesLead (nodes_of bases.now) (frames_of blocks.now.items) (view given.now) }
     ensures { reached_of result ≡ answer_map present_in
-        (resolve recursive (lend (bases_of bases.now) (frames_of blocks.now.items)) (reference_of path.now)
+        (resolve recursive (with_borrowed (bases_of bases.now) (frames_of blocks.now.items)) (reference_of path.now)
         (view given.now)) }
 {
     match path {
         Path::Relative((segments, _)) => {
-            follow(given, way_of(blocks, bases, segments, recursive), looked_up)
+            follow(
+                given,
+                resolution_of(blocks, bases, segments, recursive),
+                looked_up,
+            )
         }
         Path::Local((level, name, _)) => if_found(variable_at(blocks, *level, name.as_str())),
     }
 }
 
-/// The value that a path leads to from the data itself, or why there is none. So it is where the nodes that are lent to blocks
-/// are of other data.
+/// Returns the value that a path leads to from the data itself, or why there is none. This is for data other than that of the
+/// nodes that blocks borrow.
 pub fn reach_from_data<'v: 'n, 'n>(
     given: &'v Json,
     path: &'n Path,
@@ -85,14 +94,14 @@ pub fn reach_from_data<'v: 'n, 'n>(
     looked_up: &LookedUp,
 ) -> Reached<'v, 'n>
     ensures { reached_of result ≡ answer_map present_in
-        (resolve recursive (lend (bases_of bases.now) (frames_of blocks.now.items)) (reference_of path.now)
+        (resolve recursive (with_borrowed (bases_of bases.now) (frames_of blocks.now.items)) (reference_of path.now)
         (view given.now)) }
 {
     match path {
         Path::Relative((segments, _)) => {
             follow(
                 given,
-                way_of(blocks, bases, segments, recursive).from_data(),
+                resolution_of(blocks, bases, segments, recursive).from_data(),
                 looked_up,
             )
         }
@@ -100,7 +109,12 @@ pub fn reach_from_data<'v: 'n, 'n>(
     }
 }
 
-/// What a path leads to, with the full path of a value of the data. A value that a block holds is copied.
+/// Returns what a path leads to, with the full path if the value is one of the data. A value that a block holds is copied.
+///
+/// # Errors
+///
+/// Fails with `InvalidJsonIndex` for a name that isn't an index of an array, as the definition `resolve` says, and with
+/// `OutOfMemory` if memory runs out.
 pub fn find<'a>(
     alloc: Global,
     given: &'a Json,
@@ -112,7 +126,7 @@ pub fn find<'a>(
 ) -> Result<ScopedJson<'a>, RenderError>
     requires nodes { NodesLead (nodes_of bases.now) (frames_of blocks.now.items) (view given.now) }
     ensures found { Answers found_of result
-        (resolve recursive (lend (bases_of bases.now) (frames_of blocks.now.items)) (reference_of path.now)
+        (resolve recursive (with_borrowed (bases_of bases.now) (frames_of blocks.now.items)) (reference_of path.now)
         (view given.now)) }
     ensures plain { IfOk result (λ found. is_constant found ≡ false) }
 {
@@ -122,7 +136,7 @@ pub fn find<'a>(
     }
 }
 
-/// What a path leads to with its full path, or why there is none, of which no refusal is made yet.
+/// Returns what a path leads to with its full path, or why there is none. Creates no error yet.
 pub fn seek<'a, 'n>(
     alloc: Global,
     given: &'a Json,
@@ -134,7 +148,7 @@ pub fn seek<'a, 'n>(
 ) -> Result<ScopedJson<'a>, Unfound<'n>>
     requires nodes { NodesLead (nodes_of bases.now) (frames_of blocks.now.items) (view given.now) }
     ensures found { Seeks result
-        (resolve recursive (lend (bases_of bases.now) (frames_of blocks.now.items)) (reference_of path.now)
+        (resolve recursive (with_borrowed (bases_of bases.now) (frames_of blocks.now.items)) (reference_of path.now)
         (view given.now)) }
     ensures plain { IfOk result (λ found. is_constant found ≡ false) }
 {
@@ -143,7 +157,7 @@ pub fn seek<'a, 'n>(
             found_by(
                 alloc,
                 given,
-                way_of(blocks, bases, segments, recursive),
+                resolution_of(blocks, bases, segments, recursive),
                 looked_up,
             )
         }
@@ -151,8 +165,9 @@ pub fn seek<'a, 'n>(
     }
 }
 
-/// The value that the nearest block stands at, or the data without any; none where the block holds it itself, or the
-/// data has none there. So it is lent for as long as the data and what is lent to blocks.
+/// Returns the value at the base of the nearest block, or the data if there is no block. Returns `None` if the block holds
+/// the value itself, or the data has no value there. So the value is borrowed for as long as the data and what blocks
+/// borrow.
 pub fn current<'v>(
     given: &'v Json,
     blocks: &VecDeque<BlockContext>,
@@ -160,22 +175,22 @@ pub fn current<'v>(
     looked_up: &LookedUp,
 ) -> Option<&'v Json>
     requires nodes { NodesLead (nodes_of bases.now) (frames_of blocks.now.items) (view given.now) }
-    ensures { IfSome result (λ v. IsCurrent (lend (bases_of bases.now) (frames_of blocks.now.items)) (view given.now)
+    ensures { IfSome result (λ v. IsCurrent (with_borrowed (bases_of bases.now) (frames_of blocks.now.items)) (view given.now)
         (view v.now)) }
 {
     match blocks.front() {
         Some(block) => {
-            let lent = bases.up(0);
-            match lent.base {
+            let borrowed = bases.up(0);
+            match borrowed.base {
                 Some(value) => Some(value),
-                None => current_in(given, block, lent.node, looked_up),
+                None => current_in(given, block, borrowed.node, looked_up),
             }
         }
         None => Some(given),
     }
 }
 
-// The value of the data that a block stands at, where nothing but its node is lent to it.
+// Returns the value of the data at the base of a block that borrows nothing but its node.
 fn current_in<'v>(
     given: &'v Json,
     block: &BlockContext,
@@ -195,9 +210,9 @@ fn current_in<'v>(
     }
 }
 
-/// What is lent to the nearest block, for where the data itself may not be lent.
-pub fn lent<'v>(blocks: &VecDeque<BlockContext>, bases: &'v Bases<'v, '_>) -> Option<&'v Json>
-    ensures { IfSome result (λ v. (d : Data) → IsCurrent (lend (bases_of bases.now) (frames_of blocks.now.items)) d
+/// Returns the base that the nearest block borrows, for callers that may not borrow the data itself.
+pub fn borrowed<'v>(blocks: &VecDeque<BlockContext>, bases: &'v Bases<'v, '_>) -> Option<&'v Json>
+    ensures { IfSome result (λ v. (d : Data) → IsCurrent (with_borrowed (bases_of bases.now) (frames_of blocks.now.items)) d
         (view v.now)) }
 {
     match blocks.front() {
@@ -206,7 +221,7 @@ pub fn lent<'v>(blocks: &VecDeque<BlockContext>, bases: &'v Bases<'v, '_>) -> Op
     }
 }
 
-// What the segments of a path lead to, with its full path.
+// Returns what the segments of a path lead to, with its full path.
 pub(crate) fn navigate<'a>(
     alloc: Global,
     given: &'a Json,
@@ -222,7 +237,7 @@ pub(crate) fn navigate<'a>(
     match found_by(
         alloc,
         given,
-        way_of(blocks, &bases, segments, recursive).from_data(),
+        resolution_of(blocks, &bases, segments, recursive).from_data(),
         &LookedUp::new(),
     ) {
         Ok(found) => Ok(found),
@@ -230,26 +245,28 @@ pub(crate) fn navigate<'a>(
     }
 }
 
-// What stands at the end of a way.
+// Returns what a resolution leads to, with its full path.
 fn found_by<'a, 'n>(
     alloc: Global,
     given: &'a Json,
-    way: Way<'n, 'n, 'a>,
+    resolution: Resolution<'n, 'n, 'a>,
     looked_up: &LookedUp,
 ) -> Result<ScopedJson<'a>, Unfound<'n>>
-    requires node { IsFromNode (view given.now) way }
-    ensures found { Seeks result (found_by (way_view way.entry) (view given.now)) }
+    requires node { IsFromNode (view given.now) resolution }
+    ensures found { Seeks result (found_by (resolution_view resolution.entry) (view given.now)) }
     ensures plain { IfOk result (λ found. is_constant found ≡ false) }
 {
-    match way {
-        Way::Within(held, rest) => found_within(held, rest),
-        Way::Along {
+    match resolution {
+        Resolution::Within(held, rest) => found_within(held, rest),
+        Resolution::Along {
             node,
             base,
             bound,
             rest,
         } => found_along(alloc, given, node, base, bound, rest, looked_up),
-        Way::UnderFront(base, name) => Ok(found_front(alloc, given, base, name, looked_up)?),
+        Resolution::UnderPrefix(base, name) => Ok(found_prefix(
+            alloc, given, base, name, looked_up,
+        )?),
     }
 }
 
@@ -287,50 +304,53 @@ fn found_along<'a, 'n>(
     }
 }
 
-fn found_front<'a>(
+fn found_prefix<'a>(
     alloc: Global,
     given: &'a Json,
     base: &[String],
     name: &String,
     looked_up: &LookedUp,
 ) -> Result<ScopedJson<'a>, AllocError>
-    ensures found { IfOk result (λ found. found_of found ≡ found_front (names_in base.now) (string_bytes name.now)
+    ensures found { IfOk result (λ found. found_of found ≡ found_prefix (names_in base.now) (string_bytes name.now)
         (longest (view given.now) (names_in base.now) (string_bytes name.now))) }
     ensures plain { IfOk result (λ found. is_constant found ≡ false) }
 {
     match longest(given, base, name, looked_up) {
-        Some((kept, value)) => Ok(ScopedJson::Context(value, front(alloc, &base[..kept], name)?)),
+        Some((retained, value)) => Ok(ScopedJson::Context(
+            value,
+            prefix(alloc, &base[..retained], name)?,
+        )),
         None => Ok(ScopedJson::Missing),
     }
 }
 
-// The value at the end of a way.
+// Returns the value that a resolution leads to.
 #[inline(always)]
 fn follow<'v: 'n, 'n>(
     given: &'v Json,
-    way: Way<'v, 'n, 'v>,
+    resolution: Resolution<'v, 'n, 'v>,
     looked_up: &LookedUp,
 ) -> Reached<'v, 'n>
-    requires node { IsFromNode (view given.now) way }
+    requires node { IsFromNode (view given.now) resolution }
     ensures { reached_of result
-        ≡ answer_map present_in (found_by (way_view way.entry) (view given.now)) }
+        ≡ answer_map present_in (found_by (resolution_view resolution.entry) (view given.now)) }
 {
-    match way {
-        Way::Within(held, rest) => along_segments(held, rest).0,
-        Way::Along {
+    match resolution {
+        Resolution::Within(held, rest) => along_segments(held, rest).0,
+        Resolution::Along {
             node,
             base,
             bound,
             rest,
         } => along(given, node, base, bound, rest, looked_up),
-        Way::UnderFront(base, name) => match longest(given, base, name, looked_up) {
+        Resolution::UnderPrefix(base, name) => match longest(given, base, name, looked_up) {
             Some((_, value)) => Reached::Value(value),
             None => Reached::Nothing,
         },
     }
 }
 
-// The variable of the block so many blocks up.
+// Returns the variable of the block this many blocks up.
 pub(super) fn variable_at<'b>(
     blocks: &'b VecDeque<BlockContext>,
     level: usize,
@@ -357,8 +377,8 @@ fn copied<'a>(found: Option<&Json>) -> Result<ScopedJson<'a>, AllocError>
 
 // ---- along names
 
-// Along a base path, what is bound below it, and the names of segments: from the node that the base path leads to, where
-// that is known.
+// Walks along a base path, what is bound below it, and the names of segments. Starts at the node that the base path leads
+// to, if that is known.
 #[inline(always)]
 pub(super) fn along<'v, 'n>(
     given: &'v Json,
@@ -378,7 +398,7 @@ pub(super) fn along<'v, 'n>(
     }
 }
 
-// From the data, along all names.
+// Walks from the data, along all names.
 #[inline(always)]
 fn along_all<'v, 'n>(
     given: &'v Json,
@@ -403,7 +423,7 @@ fn along_all<'v, 'n>(
     }
 }
 
-// From a node.
+// Walks from a node.
 #[inline(always)]
 fn along_from<'v, 'n>(
     node: &'v Json,
@@ -418,7 +438,7 @@ fn along_from<'v, 'n>(
     reached
 }
 
-/// The value of the data that names lead to; none where they lead to none.
+/// Returns the value of the data that names lead to, if there is one.
 pub fn node_at<'v>(given: &'v Json, names: &[String], looked_up: &LookedUp) -> Option<&'v Json>
     ensures { IsNode (view given.now) (names_in names.now) (option_map (λ v. view v.now) result) }
 {
@@ -430,10 +450,10 @@ pub fn node_at<'v>(given: &'v Json, names: &[String], looked_up: &LookedUp) -> O
     }
 }
 
-// ---- places
+// ---- locations
 
-/// Where a path leads in the data, with its full path, where that is told without a copy of a value.
-pub fn place<'a>(
+/// Returns where a path leads in the data, with its full path, as far as that can be reported without copying a value.
+pub fn data_node<'a>(
     alloc: Global,
     given: &'a Json,
     path: &Path,
@@ -441,30 +461,30 @@ pub fn place<'a>(
     bases: &Bases<'_, 'a>,
     recursive: bool,
     looked_up: &LookedUp,
-) -> Placed<'a>
+) -> DataLookup<'a>
     requires nodes { NodesLead (nodes_of bases.now) (frames_of blocks.now.items) (view given.now) }
-    ensures { IsPlaced result (view given.now)
-        (resolve recursive (lend (bases_of bases.now) (frames_of blocks.now.items)) (reference_of path.now)
+    ensures { IsDataLookup result (view given.now)
+        (resolve recursive (with_borrowed (bases_of bases.now) (frames_of blocks.now.items)) (reference_of path.now)
         (view given.now)) }
 {
     match path {
         Path::Relative((segments, _)) => {
-            match way_of(blocks, bases, segments, recursive) {
-                Way::Along {
+            match resolution_of(blocks, bases, segments, recursive) {
+                Resolution::Along {
                     node,
                     base,
                     bound,
                     rest,
-                } => placed_along(alloc, given, node, base, bound, rest, looked_up),
-                Way::Within(_, _) => Placed::Untold,
-                Way::UnderFront(_, _) => Placed::Untold,
+                } => data_lookup_along(alloc, given, node, base, bound, rest, looked_up),
+                Resolution::Within(_, _) => DataLookup::Undetermined,
+                Resolution::UnderPrefix(_, _) => DataLookup::Undetermined,
             }
         }
-        Path::Local(_) => Placed::Untold,
+        Path::Local(_) => DataLookup::Undetermined,
     }
 }
 
-fn placed_along<'a>(
+fn data_lookup_along<'a>(
     alloc: Global,
     given: &'a Json,
     node: Option<&'a Json>,
@@ -472,18 +492,18 @@ fn placed_along<'a>(
     bound: &[String],
     rest: &[PathSeg],
     looked_up: &LookedUp,
-) -> Placed<'a>
+) -> DataLookup<'a>
     requires node { IsNode (view given.now) (names_in base.now) (option_map (λ v. view v.now) node) }
-    ensures { IsPlaced result (view given.now) (found_by
+    ensures { IsDataLookup result (view given.now) (found_by
         (along (names_in base.now ++ (names_in bound.now ++ names_of (segments_of rest.now))))
         (view given.now)) }
 {
     match along(given, node, base, bound, rest, looked_up) {
         Reached::Value(node) => match joined(alloc, base, bound, rest) {
-            Ok(path) => Placed::At(Place { path, node }),
-            Err(AllocError) => Placed::Untold,
+            Ok(path) => DataLookup::At(DataNode { path, node }),
+            Err(AllocError) => DataLookup::Undetermined,
         },
-        Reached::Nothing => Placed::Nowhere,
-        Reached::NoIndex(_) => Placed::Untold,
+        Reached::Nothing => DataLookup::Nowhere,
+        Reached::NoIndex(_) => DataLookup::Undetermined,
     }
 }

@@ -1,4 +1,4 @@
-//! The arguments of a call: its parameters, and its pairs by their keys.
+//! The arguments of a call: its parameters, and its hash arguments by their keys.
 
 ghost use Rattle.std.specs.Prelude.{◌≡◌, OnOk, option_map, string_bytes};
 ghost use Rattle.handlebars_template.specs.Tree.{no_arguments, lacks_arguments};
@@ -32,8 +32,8 @@ impl Arguments {
         self.params.is_empty() && self.hash.is_empty()
     }
 
-    /// One more: a pair, where there is a key, in place of an earlier one with it, or a parameter.
-    #[tactic(auto, using(crate::proofs::LinesBuilt::params_view_push, crate::proofs::LinesBuilt::pairs_view_insert))]
+    /// Adds an argument: with a key, a hash argument that replaces an earlier one with the same key; without, a parameter.
+    #[tactic(auto, using(crate::proofs::ExpressionsBuilt::params_view_push, crate::proofs::ExpressionsBuilt::hash_view_insert))]
     pub fn add(&mut self, key: Option<String>, value: Parameter) -> Result<(), AllocError>
         ensures { OnOk result (arguments_view self.new
             ≡ add_argument (option_map string_bytes key) (param_view value) (arguments_view self.old)) }

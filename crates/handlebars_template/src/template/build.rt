@@ -1,31 +1,31 @@
-//! The call that a line is, from its steps: the calls that are not yet closed stand in a list, so that no function
+//! Builds the call that an expression is from its steps. The calls that are not yet closed are in a list, so that no function
 //! calls itself.
 
 ghost use Rattle.std.specs.Prelude.{◌≡◌, true, [], IfOk, OnOk, option_map, string_bytes};
 ghost use Rattle.handlebars_base.specs.Path.{IsIdentifier, name_segments, raw_of, relative};
 ghost use Rattle.handlebars_base.specs.PathReading.{path_of};
 ghost use Rattle.handlebars_base.specs.PathView.{segments_of, reference_of};
-ghost use Rattle.handlebars_lines.specs.Line.{Line};
-ghost use Rattle.handlebars_lines.specs.Parameter.{Term, literal_term, path_term, name_term};
-ghost use Rattle.handlebars_lines.specs.LineReading.{OpenLine, OpenLines, begun_line, add_term, opened_in, added_in, closed_in, build, first_lines};
-ghost use Rattle.handlebars_lines.specs.LineView.{key_of, event_of};
-ghost use Rattle.handlebars_template.specs.Tree.{expression, subexpression};
-ghost use Rattle.handlebars_template.specs.Calls.{param_of, named_param, name_before, call_with, first_refused, line_literals};
+ghost use Rattle.handlebars_expressions.specs.Expression.{Expression};
+ghost use Rattle.handlebars_expressions.specs.Parameter.{Term, literal_term, path_term, name_term};
+ghost use Rattle.handlebars_expressions.specs.ExpressionReading.{OpenExpression, OpenExpressions, begun_expression, add_term, opened_in, added_in, closed_in, build, first_expressions};
+ghost use Rattle.handlebars_expressions.specs.ExpressionView.{key_of, event_of};
+ghost use Rattle.handlebars_template.specs.Tree.{escaped_expression, subexpression};
+ghost use Rattle.handlebars_template.specs.Calls.{param_of, named_param, name_before, call_with, first_rejected, expression_literals};
 ghost use Rattle.handlebars_template.specs.TreeView.{param_view, arguments_view};
-ghost use Rattle.handlebars_template.specs.LineBuildingView.{open_view, calls_view, open_call_of, AreCallsOf, IsTaken, whole_line, IsBuilt};
+ghost use Rattle.handlebars_template.specs.ExpressionBuildingView.{open_view, calls_view, open_call_of, AreCallsOf, IsTaken, whole_expression, IsBuilt};
 
 use crate::template::arguments::Arguments;
-use crate::template::line::BuiltLine;
+use crate::template::expression::BuiltExpression;
 use crate::template::tree::{Parameter, Subexpression};
 use handlebars_base::json::path::marks::all_symbols;
 use handlebars_base::json::path::{Path, PathSeg, read_path};
 use handlebars_base::json::value::Json;
-use handlebars_lines::line::Event;
-use handlebars_lines::worth::literal_value;
+use handlebars_expressions::expression::Event;
+use handlebars_expressions::literal_value::literal_value;
 use std::alloc::{AllocError, Global};
 use std::mem;
 
-/// A call that is not yet closed: the key before it, its name and its arguments so far. A path stays a path until it is
+/// A call that is not yet closed: the key before it, its name and its arguments so far. A path remains a path until it is
 /// known whether anything follows it.
 pub struct OpenCall<'a> {
     pub key: Option<&'a str>,
@@ -43,11 +43,11 @@ impl Drop for OpenCall<'_> {
     }
 }
 
-/// The innermost call, those around it, the outermost first, and the first literal that was refused.
+/// The innermost call, those around it, the outermost first, and the first literal that was rejected.
 pub struct OpenCalls<'a> {
     pub top: OpenCall<'a>,
     pub around: Vec<OpenCall<'a>>,
-    pub refused: Option<&'a str>,
+    pub rejected: Option<&'a str>,
 }
 
 impl Drop for OpenCalls<'_> {
@@ -55,13 +55,13 @@ impl Drop for OpenCalls<'_> {
         let OpenCalls {
             top: _,
             around: _,
-            refused: _,
+            rejected: _,
         } = self;
     }
 }
 
 fn new_call<'a>(alloc: Global, key: Option<&'a str>) -> OpenCall<'a>
-    ensures { open_view result ≡ open_call_of (begun_line (key_of key.entry)) }
+    ensures { open_view result ≡ open_call_of (begun_expression (key_of key.entry)) }
 {
     OpenCall {
         key,
@@ -70,14 +70,15 @@ fn new_call<'a>(alloc: Global, key: Option<&'a str>) -> OpenCall<'a>
     }
 }
 
-/// One open call, with nothing in it. What is refused later is a part of the text, which so gives the lifetime.
+/// Creates one open call, with nothing in it. A literal that is rejected later is a slice of the text, which gives the
+/// lifetime.
 pub fn first_calls<'a>(alloc: Global, _text: &'a str) -> OpenCalls<'a>
-    ensures { AreCallsOf first_lines (calls_view result) }
+    ensures { AreCallsOf first_expressions (calls_view result) }
 {
     OpenCalls {
         top: new_call(alloc, None),
         around: Vec::new(alloc),
-        refused: None,
+        rejected: None,
     }
 }
 
@@ -123,7 +124,7 @@ fn name_before(arguments: &Arguments, name: Parameter) -> Parameter
 
 fn called(alloc: Global, name: Parameter, arguments: Arguments) -> Result<Parameter, AllocError>
     ensures { IfOk result (λ call. param_view call
-        ≡ subexpression (expression (call_with (param_view name) (arguments_view arguments)))) }
+        ≡ subexpression (escaped_expression (call_with (param_view name) (arguments_view arguments)))) }
 {
     let name = name_before(&arguments, name);
     let Arguments { params, hash } = arguments;
@@ -133,11 +134,11 @@ fn called(alloc: Global, name: Parameter, arguments: Arguments) -> Result<Parame
 
 impl<'a> OpenCall<'a> {
     // The first term is the name.
-    #[tactic(auto, using(crate::proofs::OpenLines::arguments_in_joined))]
+    #[tactic(auto, using(crate::proofs::OpenExpressions::arguments_in_joined))]
     fn add(&mut self, key: Option<String>, value: Parameter) -> Result<(), AllocError>
-        ensures { OnOk result ((line : OpenLine) (t : Term) → open_view self.old ≡ open_call_of line
+        ensures { OnOk result ((expression : OpenExpression) (t : Term) → open_view self.old ≡ open_call_of expression
             → param_view value ≡ param_of t
-            → open_view self.new ≡ open_call_of (add_term (option_map string_bytes key) t line)) }
+            → open_view self.new ≡ open_call_of (add_term (option_map string_bytes key) t expression)) }
     {
         if self.name.is_some() {
             self.arguments.add(key, value)?;
@@ -147,10 +148,10 @@ impl<'a> OpenCall<'a> {
         Ok(())
     }
 
-    // As a term of the call around it, once its name is there.
+    // The call as a term of the call around it, if it has its name.
     fn term(self, alloc: Global) -> Result<Option<Parameter>, AllocError>
         ensures { IfOk result (λ call. option_map param_view call
-            ≡ option_map (λ n. subexpression (expression (call_with n (arguments_view self.entry.arguments))))
+            ≡ option_map (λ n. subexpression (escaped_expression (call_with n (arguments_view self.entry.arguments))))
             (option_map param_view self.entry.name)) }
     {
         let OpenCall {
@@ -164,10 +165,10 @@ impl<'a> OpenCall<'a> {
         }
     }
 
-    // As the outermost call of a line, once its name is there.
-    fn line(self, refused: Option<&'a str>) -> Option<BuiltLine<'a>>
-        ensures { (line : Line) → open_view self.entry ≡ open_call_of (whole_line line)
-            → key_of refused.entry ≡ first_refused (line_literals line) → IsBuilt line result }
+    // The call as the outermost call of an expression, if it has its name.
+    fn expression(self, rejected: Option<&'a str>) -> Option<BuiltExpression<'a>>
+        ensures { (expression : Expression) → open_view self.entry ≡ open_call_of (whole_expression expression)
+            → key_of rejected.entry ≡ first_rejected (expression_literals expression) → IsBuilt expression result }
     {
         let OpenCall {
             key: _,
@@ -178,10 +179,10 @@ impl<'a> OpenCall<'a> {
             return None;
         };
         let name = name_before(&arguments, name);
-        Some(BuiltLine {
+        Some(BuiltExpression {
             name,
             arguments,
-            refused,
+            rejected,
         })
     }
 }
@@ -213,14 +214,15 @@ fn name_path(alloc: Global, name: &str) -> Result<Path, AllocError>
     Ok(Path::Relative((name_segments(alloc, name)?, raw)))
 }
 
-/// The path that the whole text is. It says what `read_path` does by the function that the steps of lines cite.
+/// Reads the whole text as a path, or returns `None`. The contract states what `read_path` does by the function that the steps
+/// of expressions cite.
 pub fn path_of(alloc: Global, raw: &str) -> Result<Option<Path>, AllocError>
     ensures { IfOk result (λ read. option_map reference_of read ≡ path_of raw.now) }
 {
     known_path(alloc, raw, is_name(raw))
 }
 
-/// The path that the whole text is, where it is known whether it is surely symbols alone.
+/// Reads the whole text as a path, or returns `None`. If `is_name` is true, the text is known to be symbols alone.
 pub fn known_path(alloc: Global, raw: &str, is_name: bool) -> Result<Option<Path>, AllocError>
     requires { is_name ≡ true → IsIdentifier raw.now }
     ensures { IfOk result (λ read. option_map reference_of read ≡ path_of raw.now) }
@@ -236,18 +238,18 @@ pub fn known_path(alloc: Global, raw: &str, is_name: bool) -> Result<Option<Path
 
 impl<'a> OpenCalls<'a> {
     fn begin(&mut self, alloc: Global, key: Option<&'a str>) -> Result<(), AllocError>
-        ensures { OnOk result ((lines : OpenLines) → AreCallsOf lines (calls_view self.old)
-            → AreCallsOf (opened_in (key_of key.entry) lines) (calls_view self.new)) }
+        ensures { OnOk result ((expressions : OpenExpressions) → AreCallsOf expressions (calls_view self.old)
+            → AreCallsOf (opened_in (key_of key.entry) expressions) (calls_view self.new)) }
     {
         let outer = mem::replace(&mut self.top, new_call(alloc, key));
         self.around.push(outer)?;
         Ok(())
     }
 
-    // Whether there is a call to close, and one around it.
+    // Closes the innermost call. Returns whether there is one to close, and one around it.
     fn close(&mut self, alloc: Global) -> Result<bool, AllocError>
-        ensures { IfOk result (λ taken. (lines : OpenLines) → AreCallsOf lines (calls_view self.old)
-            → IsTaken (closed_in lines.top lines.around) taken (calls_view self.new)) }
+        ensures { IfOk result (λ taken. (expressions : OpenExpressions) → AreCallsOf expressions (calls_view self.old)
+            → IsTaken (closed_in expressions.top expressions.around) taken (calls_view self.new)) }
     {
         let Some(outer) = self.around.pop() else {
             return Ok(false);
@@ -261,30 +263,30 @@ impl<'a> OpenCalls<'a> {
         Ok(true)
     }
 
-    // What is refused stands as null. The first one refused stays.
+    // A literal that is rejected is added as null. Only the first one that is rejected is recorded.
     fn add_literal(
         &mut self,
         alloc: Global,
         key: Option<&str>,
         raw: &'a str,
     ) -> Result<(), AllocError>
-        ensures { OnOk result ((lines : OpenLines) → AreCallsOf lines (calls_view self.old)
-            → AreCallsOf (added_in (key_of key.entry) (literal_term raw.now) lines) (calls_view self.new)) }
+        ensures { OnOk result ((expressions : OpenExpressions) → AreCallsOf expressions (calls_view self.old)
+            → AreCallsOf (added_in (key_of key.entry) (literal_term raw.now) expressions) (calls_view self.new)) }
     {
         let key = key_text(alloc, key)?;
         match literal_value(alloc, raw)? {
             Some(value) => self.top.add(key, Parameter::Literal(value)),
             None => {
-                self.refused = Some(self.refused.unwrap_or(raw));
+                self.rejected = Some(self.rejected.unwrap_or(raw));
                 self.top.add(key, Parameter::Literal(Json::Null))
             }
         }
     }
 
-    // Whether the text is a path.
+    // Adds a path. Returns whether the text is one.
     fn add_path(&mut self, alloc: Global, key: Option<&str>, raw: &str) -> Result<bool, AllocError>
-        ensures { IfOk result (λ taken. (lines : OpenLines) → AreCallsOf lines (calls_view self.old)
-            → IsTaken (option_map (λ means. added_in (key_of key.entry) (path_term means) lines) (path_of raw.now)) taken
+        ensures { IfOk result (λ taken. (expressions : OpenExpressions) → AreCallsOf expressions (calls_view self.old)
+            → IsTaken (option_map (λ means. added_in (key_of key.entry) (path_term means) expressions) (path_of raw.now)) taken
             (calls_view self.new)) }
     {
         let key = key_text(alloc, key)?;
@@ -295,19 +297,19 @@ impl<'a> OpenCalls<'a> {
         Ok(true)
     }
 
-    // A name that is no path, behind no key.
+    // Adds a name that is no path, without a key.
     fn add_name(&mut self, alloc: Global, raw: &str) -> Result<(), AllocError>
-        ensures { OnOk result ((lines : OpenLines) → AreCallsOf lines (calls_view self.old)
-            → AreCallsOf (added_in None (name_term raw.now) lines) (calls_view self.new)) }
+        ensures { OnOk result ((expressions : OpenExpressions) → AreCallsOf expressions (calls_view self.old)
+            → AreCallsOf (added_in None (name_term raw.now) expressions) (calls_view self.new)) }
     {
         let name = Parameter::Name(String::from_str(alloc, raw)?);
         self.top.add(None, name)
     }
 
-    /// A step is taken, where it can be.
+    /// Takes a step, and returns whether that was possible.
     pub fn take(&mut self, alloc: Global, event: Event<'a>) -> Result<bool, AllocError>
-        ensures { IfOk result (λ taken. (lines : OpenLines) → AreCallsOf lines (calls_view self.old)
-            → IsTaken (build lines (event_of event.entry)) taken (calls_view self.new)) }
+        ensures { IfOk result (λ taken. (expressions : OpenExpressions) → AreCallsOf expressions (calls_view self.old)
+            → IsTaken (build expressions (event_of event.entry)) taken (calls_view self.new)) }
     {
         match event {
             Event::Opened(key, _) => {
@@ -327,16 +329,16 @@ impl<'a> OpenCalls<'a> {
         }
     }
 
-    /// The line of the innermost call, once its name is there.
-    pub fn finish(self) -> Option<BuiltLine<'a>>
-        ensures { (line : Line) → AreCallsOf (record { top = whole_line line; around = [] }) (calls_view self.entry)
-            → IsBuilt line result }
+    /// Returns the expression of the innermost call, if it has its name.
+    pub fn finish(self) -> Option<BuiltExpression<'a>>
+        ensures { (expression : Expression) → AreCallsOf (record { top = whole_expression expression; around = [] }) (calls_view self.entry)
+            → IsBuilt expression result }
     {
         let OpenCalls {
             top,
             around: _,
-            refused,
+            rejected,
         } = self;
-        top.line(refused)
+        top.expression(rejected)
     }
 }

@@ -4,16 +4,16 @@ ghost use Rattle.std.specs.Prelude.{◌≡◌, ◌∷◌, [], IfOk, map};
 ghost use Rattle.handlebars_template.specs.Tree.{helper_block, body};
 ghost use Rattle.handlebars_template.specs.TreeView.{tree_view, call_view, decorator_view, element_view, body_view, block_param_view};
 ghost use Rattle.handlebars_template.specs.Nest.{admits_inverse, admits_no_name, has_close, may_end, block_call, inverse_of, helper_call, block_of, decorator_with};
-ghost use Rattle.handlebars_template.specs.NestView.{placed_view, names_view, kind_view, opening_view, branch_view};
+ghost use Rattle.handlebars_template.specs.NestView.{positioned_view, names_view, kind_view, opening_view, branch_view};
 
 use crate::template::arguments::Arguments;
-use crate::template::placed::PlacedElements;
+use crate::template::positioned::PositionedElements;
 use crate::template::tree::{
     BlockParam, DecoratorTemplate, HelperTemplate, Parameter, Template, TemplateElement,
 };
 use std::alloc::{AllocError, Global};
 
-/// The names that a block binds, as texts: they are parameters only in its tree.
+/// The names that a block binds, as texts. They are parameters only in its tree.
 #[derive(Drop)]
 pub enum BlockNames {
     Unbound,
@@ -21,7 +21,7 @@ pub enum BlockNames {
     BothBound(String, String),
 }
 
-/// What a tag opens: the block of a helper, a raw block, or the block of a decorator or of an inclusion.
+/// What a tag opens: a helper block, a raw block, a decorator block or a partial block.
 #[derive(Clone, Copy)]
 pub enum BlockKind {
     Helper,
@@ -31,7 +31,7 @@ pub enum BlockKind {
 }
 
 impl BlockKind {
-    /// Whether chained inverses and an inverse may stand in it: in a raw block only its end may stand.
+    /// Returns whether the block may have chained inverses and an inverse. A raw block may have only its end.
     pub fn admits_inverse(self) -> bool
         ensures { result ≡ admits_inverse (kind_view self) }
     {
@@ -43,7 +43,7 @@ impl BlockKind {
         }
     }
 
-    // Whether a close without a name ends it.
+    // Whether a close without a name ends the block.
     fn admits_no_name(self) -> bool
         ensures { result ≡ admits_no_name (kind_view self) }
     {
@@ -55,7 +55,7 @@ impl BlockKind {
         }
     }
 
-    // Whether a close is of its kind: of a raw block or of another.
+    // Whether a close is of the block's kind: of a raw block or of another.
     fn has_close(self, is_raw: bool) -> bool
         ensures { result ≡ has_close (kind_view self) is_raw }
     {
@@ -67,7 +67,7 @@ impl BlockKind {
         }
     }
 
-    /// Whether a close of this kind, with this name, which may be empty, may end it.
+    /// Returns whether a close of this kind, with this name, which may be empty, may end the block.
     pub fn may_end(self, is_raw: bool, name: &str) -> bool
         ensures { result ≡ may_end (kind_view self) is_raw name.now }
     {
@@ -75,7 +75,7 @@ impl BlockKind {
     }
 }
 
-/// What the tag of a block or of a chained inverse says, and the name that closes the block.
+/// The content of the tag of a block or of a chained inverse, and the name that closes the block.
 pub struct BlockOpening {
     pub kind: BlockKind,
     pub name: Parameter,
@@ -101,7 +101,7 @@ impl Drop for BlockOpening {
 /// A whole chained inverse.
 pub struct Branch {
     pub opening: BlockOpening,
-    pub elements: PlacedElements,
+    pub elements: PositionedElements,
 }
 
 impl Drop for Branch {
@@ -113,7 +113,7 @@ impl Drop for Branch {
     }
 }
 
-/// Where an open block stands: in its first body, in a chained inverse, or in its inverse.
+/// The stage of an open block: in its first body, in a chained inverse, or in its inverse.
 #[derive(Drop)]
 pub enum Stage {
     First,
@@ -135,16 +135,16 @@ fn block_param(names: BlockNames) -> Option<BlockParam>
 }
 
 impl BlockOpening {
-    /// A block, or a chained inverse.
+    /// Returns the block, or the chained inverse, with these elements and this inverse.
     #[inline(always)]
     pub fn block(
         self,
-        elements: PlacedElements,
+        elements: PositionedElements,
         inverse: Option<Template>,
         chain: bool,
     ) -> HelperTemplate
         ensures { call_view result
-            ≡ block_call (opening_view self) (placed_view elements) (body_view inverse) chain }
+            ≡ block_call (opening_view self) (positioned_view elements) (body_view inverse) chain }
     {
         let BlockOpening {
             kind: _,
@@ -167,7 +167,7 @@ impl BlockOpening {
         }
     }
 
-    /// A decorator, or an inclusion with a block, with this body.
+    /// Returns the decorator, or the partial with a block, with this body.
     pub fn decorator(self, body: Option<Template>) -> DecoratorTemplate
         ensures { decorator_view result ≡ decorator_with (opening_view self) (body_view body) }
     {
@@ -191,7 +191,7 @@ impl BlockOpening {
 }
 
 impl Branch {
-    // As the inverse of what stands before it.
+    // The branch as the inverse of what comes before it.
     #[inline(never)]
     fn inverse(self, alloc: Global, inverse: Option<Template>) -> Result<Template, AllocError>
         ensures { IfOk result (λ t. body (tree_view t) ≡ inverse_of (branch_view self ∷ []) (body_view inverse)) }
@@ -208,7 +208,7 @@ impl Branch {
     }
 }
 
-// The branches, each in the inverse of the one before it: from the last to the first.
+// Nests the branches, each in the inverse of the one before it, from the last to the first.
 #[tactic(auto, using(crate::proofs::NestsBuilt::inverse_of_pop))]
 fn nested_inverse(
     alloc: Global,
@@ -223,17 +223,17 @@ fn nested_inverse(
     Ok(inverse)
 }
 
-// The call that the block of a helper or a raw block is.
+// The call that a helper block or a raw block is.
 #[inline(always)]
 fn helper_call(
     alloc: Global,
     opening: BlockOpening,
-    first: PlacedElements,
+    first: PositionedElements,
     branches: Vec<Branch>,
     last: Option<Template>,
 ) -> Result<HelperTemplate, AllocError>
     ensures { IfOk result (λ h. call_view h
-        ≡ helper_call (opening_view opening) (placed_view first) (map branch_view branches.items) (body_view last)) }
+        ≡ helper_call (opening_view opening) (positioned_view first) (map branch_view branches.items) (body_view last)) }
 {
     let chain = !branches.is_empty();
     let inverse = nested_inverse(alloc, branches, last)?;
@@ -243,28 +243,28 @@ fn helper_call(
 fn helper_block(
     alloc: Global,
     opening: BlockOpening,
-    first: PlacedElements,
+    first: PositionedElements,
     branches: Vec<Branch>,
     last: Option<Template>,
 ) -> Result<TemplateElement, AllocError>
     ensures { IfOk result (λ e. element_view e
-        ≡ helper_block (helper_call (opening_view opening) (placed_view first) (map branch_view branches.items)
+        ≡ helper_block (helper_call (opening_view opening) (positioned_view first) (map branch_view branches.items)
         (body_view last))) }
 {
     let call = helper_call(alloc, opening, first, branches, last)?;
     Ok(TemplateElement::HelperBlock(call.boxed(alloc)?))
 }
 
-/// The whole block, from its first body, its chained inverses and its inverse. In time linear in its branches.
+/// Builds the whole block from its first body, its chained inverses and its inverse, in time linear in its branches.
 pub fn whole_block(
     alloc: Global,
     opening: BlockOpening,
-    first: PlacedElements,
+    first: PositionedElements,
     branches: Vec<Branch>,
     last: Option<Template>,
 ) -> Result<TemplateElement, AllocError>
     ensures { IfOk result (λ e. element_view e
-        ≡ block_of (opening_view opening) (placed_view first) (map branch_view branches.items) (body_view last)) }
+        ≡ block_of (opening_view opening) (positioned_view first) (map branch_view branches.items) (body_view last)) }
 {
     match opening.kind {
         BlockKind::Helper => helper_block(alloc, opening, first, branches, last),

@@ -1,25 +1,25 @@
-//! From a source to its tree.
+//! Compiles a source to its tree.
 
 ghost use Rattle.std.specs.Prelude.{◌≡◌, ◌≢◌, [], IfOk, IfErr, IsSome, string_bytes};
 ghost use Rattle.handlebars_base.specs.Reasons.{template_out_of_memory};
 ghost use Rattle.handlebars_base.specs.TemplateRefusals.{template_reason_of, template_refusal_of, shown_lines};
-ghost use Rattle.handlebars_template.specs.Compile.{Compiles, compiled, refused, syntax_refusal, mismatch, refusal_for};
-ghost use Rattle.handlebars_tags.specs.Options.{Options, no_options, named_options};
+ghost use Rattle.handlebars_template.specs.Compile.{Compiles, compiled, rejected, syntax_refusal, mismatch, refusal_for};
+ghost use Rattle.handlebars_lexer.specs.Options.{Options, no_options, named_options};
 ghost use Rattle.handlebars_template.specs.OptionsView.{options_view};
-ghost use Rattle.handlebars_template.specs.NestView.{kind_view, late_fault, syntax_fault};
+ghost use Rattle.handlebars_template.specs.NestView.{kind_view, late_nesting_error, nesting_error};
 ghost use Rattle.handlebars_template.specs.ScanView.{nested_outcome};
-ghost use Rattle.handlebars_template.specs.Place.{Place};
-ghost use Rattle.handlebars_template.specs.TreeView.{tree_view, place_of};
+ghost use Rattle.handlebars_template.specs.Position.{Position};
+ghost use Rattle.handlebars_template.specs.TreeView.{tree_view, position_of};
 
 use crate::template::chain::BlockKind;
-use crate::template::nest::{Late, Nested, SyntaxFault};
+use crate::template::nest::{Late, Nested, SyntaxError};
 use crate::template::scan::{Scanned, scan};
 use crate::template::tree::{Template, TemplateMapping};
 use handlebars_base::error::{TemplateError, TemplateErrorReason};
 use std::alloc::{AllocError, Global};
 
-/// How a source is compiled: the name of its template, and whether its inclusions have no indentation. Where they have
-/// none, the blanks before an inclusion that stands alone on its line stay.
+/// Options of a compilation: the name of the template, and whether indentation of its partials is prevented. If it is, the
+/// blanks before a partial that is alone on its line remain text.
 #[derive(Debug, Default, PartialEq, Drop)]
 pub struct TemplateOptions {
     pub name: Option<String>,
@@ -27,17 +27,25 @@ pub struct TemplateOptions {
 }
 
 impl Template {
-    /// The tree of a source, or its refusal: `compile2` with no options.
+    /// Compiles a source to its tree, with no name and the default options.
+    ///
+    /// # Errors
+    ///
+    /// Fails with the errors of `compile2`.
     pub fn compile(alloc: Global, source: &str) -> Result<Template, TemplateError>
         ensures ok { IfOk result (λ template. Compiles source.now no_options (compiled (tree_view template))) }
         ensures err { IfErr result (λ e. (template_refusal_of e).reason ≢ template_out_of_memory
-            → Compiles source.now no_options (refused (template_refusal_of e))) }
+            → Compiles source.now no_options (rejected (template_refusal_of e))) }
         ensures shown { IfErr result (λ e. IsSome (template_refusal_of e).position → IsSome (shown_lines e)) }
     {
         Template::compile2(alloc, source, TemplateOptions::default())
     }
 
-    /// The tree of a source under this name, or its refusal: `compile2` with nothing but the name.
+    /// Compiles a source to its tree, under this name and with the default options otherwise.
+    ///
+    /// # Errors
+    ///
+    /// Fails with the errors of `compile2`.
     pub fn compile_with_name(
         alloc: Global,
         source: &str,
@@ -46,7 +54,7 @@ impl Template {
         ensures ok { IfOk result (λ template.
             Compiles source.now (named_options (string_bytes name)) (compiled (tree_view template))) }
         ensures err { IfErr result (λ e. (template_refusal_of e).reason ≢ template_out_of_memory
-            → Compiles source.now (named_options (string_bytes name)) (refused (template_refusal_of e))) }
+            → Compiles source.now (named_options (string_bytes name)) (rejected (template_refusal_of e))) }
         ensures shown { IfErr result (λ e. IsSome (template_refusal_of e).position → IsSome (shown_lines e)) }
     {
         let options = TemplateOptions {
@@ -56,16 +64,30 @@ impl Template {
         Template::compile2(alloc, source, options)
     }
 
-    /// The tree of a source, or what is refused first. Syntax comes first, tag by tag along the source: a tag that
-    /// doesn't read, or isn't the end of the raw block in which it stands, `InvalidSyntax("unreadable tag")`; an
-    /// inverse or a close where none may stand, `InvalidSyntax("unexpected tag")`; a tag inside which, or inside whose
-    /// block, more than 200 blocks, chained inverses, parentheses and brackets of literals are open at once,
-    /// `InvalidSyntax("nesting too deep")`; and at the end of the source, at the place of the innermost open block,
-    /// `InvalidSyntax("block not closed")`. Where there is none, the first of these: a name that closes the block of
-    /// another, `MismatchingClosedHelper` of both, or `MismatchingClosedDecorator` where the block is a decorator's or an
-    /// inclusion's; or a literal with no value, `InvalidParam` of its text alone. But for the last, each has its position,
-    /// in the template of the name that is given, or `Unnamed`. In time linear in the source, but for the order of keys
-    /// and the values of literals, and without recursion.
+    /// Compiles a source to its tree, with these options.
+    ///
+    /// Runs in time linear in the source, except for ordering keys and computing the values of literals, and without
+    /// recursion.
+    ///
+    /// # Errors
+    ///
+    /// Syntax errors come first, tag by tag along the source:
+    ///
+    /// - `InvalidSyntax("unreadable tag")` if a tag can't be read, or isn't the end of the raw block that it is in;
+    /// - `InvalidSyntax("unexpected tag")` if an inverse or a close isn't allowed at its position;
+    /// - `InvalidSyntax("nesting too deep")` if more than 200 blocks, chained inverses, parentheses and brackets of
+    ///   literals are open at once inside a tag or inside its block;
+    /// - `InvalidSyntax("block not closed")`, at the position of the innermost open block, if a block is still open at
+    ///   the end of the source.
+    ///
+    /// If there is no syntax error, the error is the first of these:
+    ///
+    /// - `MismatchingClosedHelper` of both names if a name closes the block of another, or
+    ///   `MismatchingClosedDecorator` if that is the block of a decorator or of a partial;
+    /// - `InvalidParam` of the literal's text alone if a literal has no value.
+    ///
+    /// Each of these except `InvalidParam` has its position, in the template of the given name, or `Unnamed`. Fails also
+    /// when memory runs out.
     pub fn compile2(
         alloc: Global,
         source: &str,
@@ -74,7 +96,7 @@ impl Template {
         ensures ok { IfOk result (λ template.
             Compiles source.now (options_view options) (compiled (tree_view template))) }
         ensures err { IfErr result (λ e. (template_refusal_of e).reason ≢ template_out_of_memory
-            → Compiles source.now (options_view options) (refused (template_refusal_of e))) }
+            → Compiles source.now (options_view options) (rejected (template_refusal_of e))) }
         ensures shown { IfErr result (λ e. IsSome (template_refusal_of e).position → IsSome (shown_lines e)) }
     {
         match scan(alloc, source, &options)? {
@@ -82,24 +104,24 @@ impl Template {
             Scanned::Unreadable(at) => {
                 Err(syntax_error(alloc, source, options, at, "unreadable tag")?)
             }
-            Scanned::Misplaced(fault, at) => {
-                Err(syntax_error(alloc, source, options, at, message(fault))?)
+            Scanned::Misplaced(error, at) => {
+                Err(syntax_error(alloc, source, options, at, message(error))?)
             }
         }
     }
 }
 
-fn message(fault: SyntaxFault) -> &'static str
-    ensures { (options : Options) (p : Place)
-        → syntax_refusal result.now options p ≡ refusal_for options (syntax_fault p fault) }
+fn message(error: SyntaxError) -> &'static str
+    ensures { (options : Options) (p : Position)
+        → syntax_refusal result.now options p ≡ refusal_for options (nesting_error p error) }
 {
-    match fault {
-        SyntaxFault::Unexpected => "unexpected tag",
-        SyntaxFault::TooDeep => "nesting too deep",
+    match error {
+        SyntaxError::Unexpected => "unexpected tag",
+        SyntaxError::TooDeep => "nesting too deep",
     }
 }
 
-// What the source comes to by what stands at its end.
+// The outcome of a source, by the state at its end.
 fn nested_tree(
     alloc: Global,
     source: &str,
@@ -108,7 +130,7 @@ fn nested_tree(
 ) -> Result<Template, TemplateError>
     ensures ok { IfOk result (λ template. nested_outcome (options_view options) nested ≡ compiled (tree_view template)) }
     ensures err { IfErr result (λ e. (template_refusal_of e).reason ≢ template_out_of_memory
-        → nested_outcome (options_view options) nested ≡ refused (template_refusal_of e)) }
+        → nested_outcome (options_view options) nested ≡ rejected (template_refusal_of e)) }
     ensures shown { IfErr result (λ e. IsSome (template_refusal_of e).position → IsSome (shown_lines e)) }
 {
     match nested {
@@ -129,7 +151,7 @@ fn mismatch(kind: BlockKind, opened: String, closing: String) -> TemplateErrorRe
     }
 }
 
-// The refusal of a closing name, or of a literal.
+// The error of a closing name, or of a literal.
 fn late_error(
     alloc: Global,
     source: &str,
@@ -137,18 +159,18 @@ fn late_error(
     late: Late,
 ) -> Result<TemplateError, AllocError>
     ensures refusal { IfOk result (λ e. (template_refusal_of e).reason ≢ template_out_of_memory
-        → template_refusal_of e ≡ refusal_for (options_view options) (late_fault late)) }
+        → template_refusal_of e ≡ refusal_for (options_view options) (late_nesting_error late)) }
     ensures shown { IfOk result (λ e. IsSome (template_refusal_of e).position → IsSome (shown_lines e)) }
 {
     match late {
         Late::NoValue(raw) => Ok(TemplateError::of(TemplateErrorReason::InvalidParam(raw))),
         Late::Mismatched(kind, opened, closing, at) => {
-            placed_error(alloc, source, options, at, mismatch(kind, opened, closing))
+            positioned_error(alloc, source, options, at, mismatch(kind, opened, closing))
         }
     }
 }
 
-// The refusal of a tag, or of a block that is not closed.
+// The error of a tag, or of a block that is not closed.
 fn syntax_error(
     alloc: Global,
     source: &str,
@@ -157,15 +179,15 @@ fn syntax_error(
     message: &str,
 ) -> Result<TemplateError, AllocError>
     ensures refusal { IfOk result (λ e. (template_refusal_of e).reason ≢ template_out_of_memory
-        → template_refusal_of e ≡ syntax_refusal message.now (options_view options) (place_of at)) }
+        → template_refusal_of e ≡ syntax_refusal message.now (options_view options) (position_of at)) }
     ensures shown { IfOk result (λ e. IsSome (template_refusal_of e).position → IsSome (shown_lines e)) }
 {
     let reason = TemplateErrorReason::InvalidSyntax(String::from_str(alloc, message)?);
-    placed_error(alloc, source, options, at, reason)
+    positioned_error(alloc, source, options, at, reason)
 }
 
-// A refusal at a place, in the template of the options' name.
-fn placed_error(
+// An error at a position, in the template of the options' name.
+fn positioned_error(
     alloc: Global,
     source: &str,
     options: TemplateOptions,
@@ -174,7 +196,7 @@ fn placed_error(
 ) -> Result<TemplateError, AllocError>
     ensures refusal { IfOk result (λ e. (template_refusal_of e).reason ≢ template_out_of_memory
         → template_refusal_of e
-        ≡ record (syntax_refusal [] (options_view options) (place_of at)) { reason = template_reason_of reason }) }
+        ≡ record (syntax_refusal [] (options_view options) (position_of at)) { reason = template_reason_of reason }) }
     ensures shown { IfOk result (λ e. template_reason_of reason ≢ template_out_of_memory
         → IsSome (template_refusal_of e).position → IsSome (shown_lines e)) }
 {

@@ -2,7 +2,7 @@
 
 ghost use Rattle.std.specs.Prelude.{◌≡◌, IfOk, map, option_map};
 ghost use Rattle.handlebars_base.specs.PathView.{reference_of, segment_of};
-ghost use Rattle.handlebars_template.specs.TreeView.{binding_view, block_param_view, body_view, call_view, decorator_view, element_view, elements_view, pairs_view, param_view, params_view, place_of, subexpression_view, text, tree_view};
+ghost use Rattle.handlebars_template.specs.TreeView.{binding_view, block_param_view, body_view, call_view, decorator_view, element_view, elements_view, hash_view, param_view, params_view, position_of, subexpression_view, text, tree_view};
 
 use super::tree::{
     BlockParam, DecoratorTemplate, HelperTemplate, Parameter, Subexpression, Template,
@@ -13,7 +13,7 @@ use std::alloc::{AllocError, Global};
 use std::collections::BTreeMap;
 
 impl Template {
-    /// A copy of the tree, in time linear in its size.
+    /// Returns a copy of the tree, in time linear in its size.
     pub fn clone(&self, alloc: Global) -> Result<Template, AllocError>
         ensures { IfOk result (λ copy. tree_view copy ≡ tree_view self.now) }
     {
@@ -84,7 +84,7 @@ fn copied_call(alloc: Global, call: &HelperTemplate) -> Result<Box<HelperTemplat
     let copy = HelperTemplate {
         name: copied_parameter(alloc, &call.name)?,
         params: copied_parameters(alloc, &call.params)?,
-        hash: copied_pairs(alloc, &call.hash)?,
+        hash: copied_hash(alloc, &call.hash)?,
         block_param: copied_block_param(alloc, &call.block_param)?,
         template: copied_body(alloc, &call.template)?,
         inverse: copied_body(alloc, &call.inverse)?,
@@ -105,7 +105,7 @@ fn copied_decorator(
     let copy = DecoratorTemplate {
         name: copied_parameter(alloc, &tag.name)?,
         params: copied_parameters(alloc, &tag.params)?,
-        hash: copied_pairs(alloc, &tag.hash)?,
+        hash: copied_hash(alloc, &tag.hash)?,
         template: copied_body(alloc, &tag.template)?,
         indent: copied_text(&tag.indent)?,
         indent_before_write: tag.indent_before_write,
@@ -189,21 +189,21 @@ fn copied_parameters(
 }
 
 #[cycle(copy)]
-fn copied_pairs(
+fn copied_hash(
     alloc: Global,
-    pairs: &BTreeMap<String, Parameter>,
+    hash: &BTreeMap<String, Parameter>,
 ) -> Result<BTreeMap<String, Parameter>, AllocError>
-    ensures { IfOk result (λ copies. pairs_view copies.entries ≡ pairs_view pairs.now.entries) }
+    ensures { IfOk result (λ copies. hash_view copies.entries ≡ hash_view hash.now.entries) }
 {
     let mut copies = BTreeMap::new(alloc);
-    'pairs: for (key, parameter) in pairs.iter() {
+    'hash: for (key, parameter) in hash.iter() {
         let key = key.clone()?;
         drop(copies.insert(key, copied_parameter(alloc, parameter)?)?);
     }
     Ok(copies)
 }
 
-// ---- what holds no tree
+// ---- values that hold no tree
 
 fn copied_text(words: &Option<String>) -> Result<Option<String>, AllocError>
     ensures { IfOk result (λ copy. option_map text copy ≡ option_map text words.now) }
@@ -218,11 +218,11 @@ fn copied_mapping(
     alloc: Global,
     mapping: &Vec<TemplateMapping>,
 ) -> Result<Vec<TemplateMapping>, AllocError>
-    ensures { IfOk result (λ copies. map place_of copies.items ≡ map place_of mapping.now.items) }
+    ensures { IfOk result (λ copies. map position_of copies.items ≡ map position_of mapping.now.items) }
 {
     let mut copies = Vec::with_capacity(alloc, mapping.len())?;
-    'places: for place in mapping {
-        copies.push(*place)?;
+    'positions: for position in mapping {
+        copies.push(*position)?;
     }
     Ok(copies)
 }

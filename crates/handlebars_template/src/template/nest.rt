@@ -3,39 +3,39 @@
 ghost use Rattle.std.specs.Prelude.{◌≡◌, ◌+◌, ◌<◌, ◌∷◌, ◌++◌, suc, ℕ, [], None, Some, Option, IfOk, OnOk, if◌then◌else◌, nat_lt, option_map};
 ghost use Rattle.std.specs.Option.{option_or};
 ghost use Rattle.handlebars_base.specs.Bytes.{Text};
-ghost use Rattle.handlebars_tags.specs.Options.{Options};
-ghost use Rattle.handlebars_template.specs.Place.{Place};
+ghost use Rattle.handlebars_lexer.specs.Options.{Options};
+ghost use Rattle.handlebars_template.specs.Position.{Position};
 ghost use Rattle.handlebars_template.specs.Tree.{Element};
 ghost use Rattle.handlebars_template.specs.Calls.{max_nesting};
-ghost use Rattle.handlebars_template.specs.TreeView.{element_view, place_of};
+ghost use Rattle.handlebars_template.specs.TreeView.{element_view, position_of};
 ghost use Rattle.handlebars_template.specs.Nest.{Opening, leaf, opens, inverts, chains, closes, mismatched, no_value, names_and_literals, may_close, takes_inverse};
-ghost use Rattle.handlebars_template.specs.Machine.{is_in_inverse, without_elements, closed, new_open_block, next_stage};
-ghost use Rattle.handlebars_template.specs.NestView.{placed_view, kind_view, opening_view, stage_view, open_block_view, open_blocks, late_view, late_of, early, Looks, Does};
-ghost use Rattle.handlebars_template.specs.ScanView.{at_end, nested_outcome};
+ghost use Rattle.handlebars_template.specs.Machine.{is_in_inverse, without_elements, closed_block, new_open_block, next_stage};
+ghost use Rattle.handlebars_template.specs.NestView.{positioned_view, kind_view, opening_view, stage_view, open_block_view, open_blocks, late_view, late_of, early, Looks, AppliesPiece};
+ghost use Rattle.handlebars_template.specs.ScanView.{compilation_at_end, nested_outcome};
 
 use crate::template::chain::{BlockKind, BlockOpening, Branch, Stage, whole_block};
-use crate::template::line::MAX_NESTING;
-use crate::template::placed::PlacedElements;
+use crate::template::expression::MAX_NESTING;
+use crate::template::positioned::PositionedElements;
 use crate::template::tree::{TemplateElement, TemplateMapping};
 use std::alloc::{AllocError, Global};
 use std::mem;
 
-/// An open block: its place, what its tag says, how much is open around it, its first body and its whole chained
-/// inverses, where it stands, and what stood before it.
+/// An open block: its position, the content of its tag, how many levels are open around it, its first body and its whole
+/// chained inverses, its stage, and the elements before it.
 pub struct OpenBlock {
-    pub place: TemplateMapping,
+    pub position: TemplateMapping,
     pub opening: BlockOpening,
     pub around: usize,
-    pub first: PlacedElements,
+    pub first: PositionedElements,
     pub branches: Vec<Branch>,
     pub stage: Stage,
-    pub outside: PlacedElements,
+    pub outside: PositionedElements,
 }
 
 impl Drop for OpenBlock {
     fn drop(self) {
         let OpenBlock {
-            place: _,
+            position: _,
             opening: _,
             around: _,
             first: _,
@@ -46,35 +46,35 @@ impl Drop for OpenBlock {
     }
 }
 
-/// Why a tag may not stand where it stands.
+/// The reason why a tag is not allowed at its position.
 #[derive(Clone, Copy)]
-pub enum SyntaxFault {
+pub enum SyntaxError {
     Unexpected,
     TooDeep,
 }
 
-/// What is refused only where the whole source nests: a literal, by its text; or what a close closes, the name that
-/// would close it, the name of the close, and its place.
+/// An error that is reported only if the whole source nests: a literal, by its text; or a close by another name, with the
+/// kind of block that it closes, the name that would close it, the name of the close, and its position.
 #[derive(Drop)]
 pub enum Late {
     NoValue(String),
     Mismatched(BlockKind, String, String, TemplateMapping),
 }
 
-/// What stands at the end: the elements, the place of the innermost block that is open, or what comes late.
+/// The state at the end of a source: its elements, the position of the innermost open block, or a late error.
 #[derive(Drop)]
 pub enum Nested {
-    Whole(PlacedElements),
+    Whole(PositionedElements),
     NotClosed(TemplateMapping),
     Late(Late),
 }
 
-/// How much is open, the open blocks, the outermost first, the elements of the innermost, and what is refused first of
-/// what comes late. A chained inverse is open too.
+/// The state of the nesting: how many levels are open, the open blocks, the outermost first, the elements of the innermost,
+/// and the first late error. A chained inverse counts as an open level too.
 pub struct Nesting {
     pub depth: usize,
     pub stack: Vec<OpenBlock>,
-    pub elements: PlacedElements,
+    pub elements: PositionedElements,
     pub late: Option<Late>,
 }
 
@@ -89,21 +89,21 @@ impl Drop for Nesting {
     }
 }
 
-// Whether this many are too many, with others open around them.
+// Whether this many levels are too many, with others open around them.
 fn is_too_deep(around: usize, number: usize) -> bool
     ensures { result ≡ nat_lt max_nesting (around + number) }
 {
     around > MAX_NESTING || number > MAX_NESTING - around
 }
 
-// Whether this many are too many inside one more block, with others open around it.
+// Whether this many levels are too many inside one more block, with others open around it.
 fn is_too_deep_inside(around: usize, number: usize) -> bool
     ensures { result ≡ nat_lt max_nesting (around + suc number) }
 {
     around >= MAX_NESTING || number >= MAX_NESTING - around
 }
 
-// One more, where one more may be open.
+// One level more, if one more may be open.
 fn one_more(depth: usize) -> usize
     ensures { depth < max_nesting → result ≡ suc depth }
 {
@@ -121,25 +121,25 @@ fn may_close(opened: &str, name: &str) -> bool
     name.is_empty() || opened == name
 }
 
-// What a close brings late, where its name is another.
-fn name_fault(
+// The late error of a close, if its name is another.
+fn name_error(
     alloc: Global,
     kind: BlockKind,
     opened: &str,
     name: &str,
-    place: TemplateMapping,
+    position: TemplateMapping,
 ) -> Result<Option<Late>, AllocError>
     ensures { IfOk result (λ late. late_view late
         ≡ if may_close names_and_literals opened.now name.now
         then None
-        else Some (mismatched (kind_view kind) opened.now name.now (place_of place))) }
+        else Some (mismatched (kind_view kind) opened.now name.now (position_of position))) }
 {
     if may_close(opened, name) {
         return Ok(None);
     }
     let opened = String::from_str(alloc, opened)?;
     let name = String::from_str(alloc, name)?;
-    Ok(Some(Late::Mismatched(kind, opened, name, place)))
+    Ok(Some(Late::Mismatched(kind, opened, name, position)))
 }
 
 fn is_in_inverse(stage: &Stage) -> bool
@@ -155,36 +155,36 @@ fn is_in_inverse(stage: &Stage) -> bool
 impl OpenBlock {
     fn new(
         alloc: Global,
-        place: TemplateMapping,
+        position: TemplateMapping,
         opening: BlockOpening,
         around: usize,
-        outside: PlacedElements,
+        outside: PositionedElements,
     ) -> OpenBlock
         ensures { open_block_view result
-            ≡ new_open_block (place_of place) (opening_view opening) around (placed_view outside) }
+            ≡ new_open_block (position_of position) (opening_view opening) around (positioned_view outside) }
     {
         OpenBlock {
-            place,
+            position,
             opening,
             around,
-            first: PlacedElements::new(alloc),
+            first: PositionedElements::new(alloc),
             branches: Vec::new(alloc),
             stage: Stage::First,
             outside,
         }
     }
 
-    // Whether an inverse, chained or not, may stand next.
+    // Whether an inverse, chained or not, may come next.
     fn takes_inverse(&self) -> bool
         ensures { result ≡ takes_inverse (without_elements (open_block_view self.now)) }
     {
         !is_in_inverse(&self.stage) && self.opening.kind.admits_inverse()
     }
 
-    // In this stage next.
-    fn enter(&mut self, elements: PlacedElements, next: Stage) -> Result<(), AllocError>
+    // Enters the next stage.
+    fn enter(&mut self, elements: PositionedElements, next: Stage) -> Result<(), AllocError>
         ensures { OnOk result (open_block_view self.new
-            ≡ next_stage (open_block_view self.old) (placed_view elements) (stage_view next)) }
+            ≡ next_stage (open_block_view self.old) (positioned_view elements) (stage_view next)) }
     {
         match mem::replace(&mut self.stage, next) {
             Stage::First => {
@@ -200,11 +200,15 @@ impl OpenBlock {
     }
 
     // The whole block, when its close comes.
-    fn closed(self, alloc: Global, elements: PlacedElements) -> Result<TemplateElement, AllocError>
-        ensures { IfOk result (λ e. element_view e ≡ (closed (open_block_view self) (placed_view elements)).element) }
+    fn closed(
+        self,
+        alloc: Global,
+        elements: PositionedElements,
+    ) -> Result<TemplateElement, AllocError>
+        ensures { IfOk result (λ e. element_view e ≡ (closed_block (open_block_view self) (positioned_view elements)).element) }
     {
         let OpenBlock {
-            place: _,
+            position: _,
             opening,
             around: _,
             first,
@@ -227,17 +231,17 @@ impl OpenBlock {
         }
     }
 
-    // It stands next in what is outside, at its place.
+    // Appends the whole block, at its position, to the elements outside.
     fn end(
         self,
         alloc: Global,
-        elements: PlacedElements,
-        outside: &mut PlacedElements,
+        elements: PositionedElements,
+        outside: &mut PositionedElements,
     ) -> Result<(), AllocError>
-        ensures { OnOk result (placed_view outside.new
-            ≡ placed_view outside.old ++ closed (open_block_view self) (placed_view elements) ∷ []) }
+        ensures { OnOk result (positioned_view outside.new
+            ≡ positioned_view outside.old ++ closed_block (open_block_view self) (positioned_view elements) ∷ []) }
     {
-        let at = self.place;
+        let at = self.position;
         let element = self.closed(alloc, elements)?;
         outside.push(at, element)
     }
@@ -245,62 +249,63 @@ impl OpenBlock {
 
 #[tactic(auto, using(crate::proofs::NestsBuilt::stack_view_push))]
 impl Nesting {
-    /// Nothing is open, and nothing stands there.
+    /// Creates the state with no open block and no elements.
     pub fn new(alloc: Global) -> Nesting
         ensures depth { result.depth ≡ 0 }
         ensures open_blocks { open_blocks result ≡ [] }
-        ensures elements { placed_view result.elements ≡ [] }
+        ensures elements { positioned_view result.elements ≡ [] }
         ensures late { late_of result ≡ None }
     {
         Nesting {
             depth: 0,
             stack: Vec::new(alloc),
-            elements: PlacedElements::new(alloc),
+            elements: PositionedElements::new(alloc),
             late: None,
         }
     }
 
-    /// Whether an element may stand next, with this many parentheses and brackets open in its tag.
-    pub fn look_at_leaf(&self, number: usize) -> Option<SyntaxFault>
-        ensures { (p : Place) (e : Element) (r : Option Text)
+    /// Checks whether an element may come next, with this many parentheses and brackets open in its tag. Returns the error,
+    /// if there is one.
+    pub fn look_at_leaf(&self, number: usize) -> Option<SyntaxError>
+        ensures { (p : Position) (e : Element) (r : Option Text)
             → Looks p (early self.now (leaf p e number r)) result }
     {
         if is_too_deep(self.depth, number) {
-            Some(SyntaxFault::TooDeep)
+            Some(SyntaxError::TooDeep)
         } else {
             None
         }
     }
 
-    /// Whether a block may open next.
-    pub fn look_at_opening(&self, number: usize) -> Option<SyntaxFault>
-        ensures { (p : Place) (o : Opening) (r : Option Text)
+    /// Checks whether a block may open next. Returns the error, if there is one.
+    pub fn look_at_opening(&self, number: usize) -> Option<SyntaxError>
+        ensures { (p : Position) (o : Opening) (r : Option Text)
             → Looks p (early self.now (opens p o number r)) result }
     {
         if is_too_deep_inside(self.depth, number) {
-            Some(SyntaxFault::TooDeep)
+            Some(SyntaxError::TooDeep)
         } else {
             None
         }
     }
 
-    /// Whether an inverse may stand next.
-    pub fn look_at_inverse(&self) -> Option<SyntaxFault>
-        ensures { (p : Place) → Looks p (early self.now (inverts p)) result }
+    /// Checks whether an inverse may come next. Returns the error, if there is one.
+    pub fn look_at_inverse(&self) -> Option<SyntaxError>
+        ensures { (p : Position) → Looks p (early self.now (inverts p)) result }
     {
         let Some(block) = self.stack.last() else {
-            return Some(SyntaxFault::Unexpected);
+            return Some(SyntaxError::Unexpected);
         };
         if block.takes_inverse() {
             None
         } else {
-            Some(SyntaxFault::Unexpected)
+            Some(SyntaxError::Unexpected)
         }
     }
 
-    /// Whether a chained inverse may stand next.
-    pub fn look_at_chained(&self, number: usize) -> Option<SyntaxFault>
-        ensures { (p : Place) (o : Opening) (r : Option Text)
+    /// Checks whether a chained inverse may come next. Returns the error, if there is one.
+    pub fn look_at_chained(&self, number: usize) -> Option<SyntaxError>
+        ensures { (p : Position) (o : Opening) (r : Option Text)
             → Looks p (early self.now (chains p o number r)) result }
     {
         let misplaced = self.look_at_inverse();
@@ -308,152 +313,158 @@ impl Nesting {
         misplaced.or(deep)
     }
 
-    /// Whether a close may stand next: one of the innermost block's kind, with whatever name, or without one where such
-    /// a close may end it.
-    pub fn look_at_close(&self, is_raw: bool, name: &str) -> Option<SyntaxFault>
-        ensures { (p : Place) → Looks p (early self.now (closes p is_raw name.now)) result }
+    /// Checks whether a close may come next: one of the innermost block's kind, with any name, or without one if such a
+    /// close may end the block. Returns the error, if there is one.
+    pub fn look_at_close(&self, is_raw: bool, name: &str) -> Option<SyntaxError>
+        ensures { (p : Position) → Looks p (early self.now (closes p is_raw name.now)) result }
     {
         let Some(block) = self.stack.last() else {
-            return Some(SyntaxFault::Unexpected);
+            return Some(SyntaxError::Unexpected);
         };
         if block.opening.kind.may_end(is_raw, name) {
             None
         } else {
-            Some(SyntaxFault::Unexpected)
+            Some(SyntaxError::Unexpected)
         }
     }
 
-    // What is refused first of what comes late stays.
+    // Records a late error, unless one is recorded already: the first one counts.
     #[inline(never)]
-    fn keep(&mut self, late: Option<Late>)
+    fn record_late(&mut self, late: Option<Late>)
         ensures late { late_of self.new ≡ option_or (late_of self.old) (late_view late) }
         ensures depth { self.new.depth ≡ self.old.depth }
         ensures open_blocks { open_blocks self.new ≡ open_blocks self.old }
-        ensures elements { placed_view self.new.elements ≡ placed_view self.old.elements }
+        ensures elements { positioned_view self.new.elements ≡ positioned_view self.old.elements }
     {
         if self.late.is_none() {
             self.late = late;
         }
     }
 
-    // What a literal that is refused brings late, if there is one.
-    fn keep_literal(&mut self, alloc: Global, refused: Option<&str>) -> Result<(), AllocError>
+    // Records the late error of a literal that is rejected, if there is one.
+    fn record_literal(&mut self, alloc: Global, rejected: Option<&str>) -> Result<(), AllocError>
         ensures late { OnOk result (late_of self.new
-            ≡ option_or (late_of self.old) (option_map no_value (option_map (λ t. t.now) refused.entry))) }
+            ≡ option_or (late_of self.old) (option_map no_value (option_map (λ t. t.now) rejected.entry))) }
         ensures depth { OnOk result (self.new.depth ≡ self.old.depth) }
         ensures open_blocks { OnOk result (open_blocks self.new ≡ open_blocks self.old) }
-        ensures elements { OnOk result (placed_view self.new.elements ≡ placed_view self.old.elements) }
+        ensures elements { OnOk result (positioned_view self.new.elements ≡ positioned_view self.old.elements) }
     {
-        match refused {
+        match rejected {
             Some(raw) => {
                 let raw = String::from_str(alloc, raw)?;
-                self.keep(Some(Late::NoValue(raw)));
+                self.record_late(Some(Late::NoValue(raw)));
                 Ok(())
             }
             None => Ok(()),
         }
     }
 
-    /// An element with its place stands next.
+    /// Adds an element with its position.
     #[inline(always)]
     pub fn add(
         &mut self,
         alloc: Global,
-        place: TemplateMapping,
+        position: TemplateMapping,
         element: TemplateElement,
-        refused: Option<&str>,
+        rejected: Option<&str>,
     ) -> Result<(), AllocError>
         ensures { OnOk result ((n : ℕ)
-            → Does self.old (leaf (place_of place) (element_view element) n (option_map (λ t. t.now) refused.entry))
+            → AppliesPiece self.old (leaf (position_of position) (element_view element) n (option_map (λ t. t.now) rejected.entry))
             self.new) }
     {
-        self.elements.push(place, element)?;
-        self.keep_literal(alloc, refused)
+        self.elements.push(position, element)?;
+        self.record_literal(alloc, rejected)
     }
 
-    /// A block opens next.
+    /// Opens a block.
     pub fn begin(
         &mut self,
         alloc: Global,
-        place: TemplateMapping,
+        position: TemplateMapping,
         opening: BlockOpening,
-        refused: Option<&str>,
+        rejected: Option<&str>,
     ) -> Result<(), AllocError>
         ensures { OnOk result ((n : ℕ)
-            → Does self.old (opens (place_of place) (opening_view opening) n (option_map (λ t. t.now) refused.entry))
+            → AppliesPiece self.old (opens (position_of position) (opening_view opening) n (option_map (λ t. t.now) rejected.entry))
             self.new) }
     {
-        let outside = mem::replace(&mut self.elements, PlacedElements::new(alloc));
+        let outside = mem::replace(&mut self.elements, PositionedElements::new(alloc));
         let around = self.depth;
         self.stack
-            .push(OpenBlock::new(alloc, place, opening, around, outside))?;
+            .push(OpenBlock::new(alloc, position, opening, around, outside))?;
         self.depth = one_more(around);
-        self.keep_literal(alloc, refused)?;
+        self.record_literal(alloc, rejected)?;
         Ok(())
     }
 
-    /// An inverse stands next.
+    /// Begins the inverse of the innermost block.
     #[inline(never)]
-    pub fn invert(&mut self, alloc: Global, place: TemplateMapping) -> Result<(), AllocError>
-        ensures { OnOk result (Does self.old (inverts (place_of place)) self.new) }
+    pub fn invert(&mut self, alloc: Global, position: TemplateMapping) -> Result<(), AllocError>
+        ensures { OnOk result (AppliesPiece self.old (inverts (position_of position)) self.new) }
     {
         let Some(mut block) = self.stack.pop() else {
             return Ok(());
         };
-        let elements = mem::replace(&mut self.elements, PlacedElements::new(alloc));
+        let elements = mem::replace(&mut self.elements, PositionedElements::new(alloc));
         block.enter(elements, Stage::Inverse)?;
         self.stack.push(block)?;
         Ok(())
     }
 
-    /// A chained inverse stands next.
+    /// Begins a chained inverse of the innermost block.
     pub fn chain(
         &mut self,
         alloc: Global,
-        place: TemplateMapping,
+        position: TemplateMapping,
         opening: BlockOpening,
-        refused: Option<&str>,
+        rejected: Option<&str>,
     ) -> Result<(), AllocError>
         ensures { OnOk result ((n : ℕ)
-            → Does self.old (chains (place_of place) (opening_view opening) n (option_map (λ t. t.now) refused.entry))
+            → AppliesPiece self.old (chains (position_of position) (opening_view opening) n (option_map (λ t. t.now) rejected.entry))
             self.new) }
     {
         let Some(mut block) = self.stack.pop() else {
             return Ok(());
         };
-        let elements = mem::replace(&mut self.elements, PlacedElements::new(alloc));
+        let elements = mem::replace(&mut self.elements, PositionedElements::new(alloc));
         block.enter(elements, Stage::Chained(opening))?;
         self.stack.push(block)?;
         self.depth = one_more(self.depth);
-        self.keep_literal(alloc, refused)?;
+        self.record_literal(alloc, rejected)?;
         Ok(())
     }
 
-    /// The close of a block stands next, which is raw or not, by this name.
+    /// Closes the innermost block, by a close of this name, which is the close of a raw block or not.
     pub fn close(
         &mut self,
         alloc: Global,
-        place: TemplateMapping,
+        position: TemplateMapping,
         is_raw: bool,
         name: &str,
     ) -> Result<(), AllocError>
-        ensures { OnOk result (Does self.old (closes (place_of place) is_raw name.now) self.new) }
+        ensures { OnOk result (AppliesPiece self.old (closes (position_of position) is_raw name.now) self.new) }
     {
         let Some(mut block) = self.stack.pop() else {
             return Ok(());
         };
         let opening = &block.opening;
-        self.keep(name_fault(alloc, opening.kind, opening.closing.as_str(), name, place)?);
+        self.record_late(name_error(
+            alloc,
+            opening.kind,
+            opening.closing.as_str(),
+            name,
+            position,
+        )?);
         self.depth = block.around;
-        let outside = mem::replace(&mut block.outside, PlacedElements::new(alloc));
+        let outside = mem::replace(&mut block.outside, PositionedElements::new(alloc));
         let elements = mem::replace(&mut self.elements, outside);
         block.end(alloc, elements, &mut self.elements)
     }
 
-    /// What stands at the end of the source.
+    /// Returns the state at the end of the source.
     pub fn finish(self) -> Nested
         ensures { (options : Options) → nested_outcome options result
-            ≡ at_end options (open_blocks self) (late_of self) (placed_view self.elements) }
+            ≡ compilation_at_end options (open_blocks self) (late_of self) (positioned_view self.elements) }
     {
         let Nesting {
             depth: _,
@@ -462,7 +473,7 @@ impl Nesting {
             late,
         } = self;
         if let Some(block) = stack.pop() {
-            return Nested::NotClosed(block.place);
+            return Nested::NotClosed(block.position);
         }
         match late {
             Some(late) => Nested::Late(late),

@@ -1,43 +1,47 @@
-//! Parameters from texts of their own.
+//! Parses whole texts as parameters.
 
 ghost use Rattle.std.specs.Prelude.{◌≡◌, ◌≢◌, None, Some, IfOk, IfErr, MatchOption};
-ghost use Rattle.handlebars_base.specs.Texts.{behind_byte};
+ghost use Rattle.handlebars_base.specs.Texts.{after_byte};
 ghost use Rattle.handlebars_base.specs.Reasons.{template_out_of_memory};
 ghost use Rattle.handlebars_base.specs.TemplateRefusals.{template_refusal_of};
-ghost use Rattle.handlebars_lines.specs.Laws.{HasLiteral, NoLiteral};
-ghost use Rattle.handlebars_lines.specs.LiteralView.{literal_slice_of};
-ghost use Rattle.handlebars_lines.specs.Parameter.{left_parenthesis};
+ghost use Rattle.handlebars_expressions.specs.Laws.{HasLiteral, NoLiteral};
+ghost use Rattle.handlebars_expressions.specs.LiteralView.{literal_token_of};
+ghost use Rattle.handlebars_expressions.specs.Parameter.{left_parenthesis};
 ghost use Rattle.handlebars_template.specs.Calls.{invalid};
-ghost use Rattle.handlebars_template.specs.ParameterParsing.{Parses, parsed, refused};
+ghost use Rattle.handlebars_template.specs.ParameterParsing.{Parses, parsed, rejected};
 ghost use Rattle.handlebars_template.specs.ParameterParsingView.{reading_view, HasNested, NoNested};
 ghost use Rattle.handlebars_template.specs.TreeView.{param_view};
 
 use crate::template::build::path_of;
-use crate::template::line::{MAX_NESTING, build_line};
+use crate::template::expression::{MAX_NESTING, build_expression};
 use crate::template::tree::{Parameter, Subexpression};
 use handlebars_base::error::{TemplateError, TemplateErrorReason};
-use handlebars_base::json::path::marks::{behind_byte, behind_white};
-use handlebars_lines::line::{Enclosure, NameMode, split_line};
-use handlebars_lines::literal::{LiteralSlice, split_literal};
-use handlebars_lines::worth::literal_value;
+use handlebars_base::json::path::marks::{after_byte, after_white};
+use handlebars_expressions::expression::{Enclosure, NameMode, split_expression};
+use handlebars_expressions::literal::{LiteralToken, split_literal};
+use handlebars_expressions::literal_value::literal_value;
 use std::alloc::{AllocError, Global};
 
 impl Parameter {
-    /// The parameter that the whole text is, or `InvalidParam`, with no name and no position: of the text where it is
-    /// no parameter or nests deeper than 200, else of the first literal in it that is worth nothing.
+    /// Parses the whole text as a parameter.
+    ///
+    /// # Errors
+    ///
+    /// Fails with `InvalidParam`, without name and position: of the whole text if it is no parameter or nests deeper than
+    /// 200, and otherwise of the first literal in it that has no value. Fails also when memory runs out.
     pub fn parse(alloc: Global, text: &str) -> Result<Parameter, TemplateError>
         ensures ok { IfOk result (λ parameter. Parses text.now (parsed (param_view parameter))) }
         ensures err { IfErr result (λ e. (template_refusal_of e).reason ≢ template_out_of_memory
-            → Parses text.now (refused (template_refusal_of e))) }
+            → Parses text.now (rejected (template_refusal_of e))) }
     {
         match read_parameter(alloc, text)? {
             Reading::Reads(parameter) => Ok(parameter),
-            Reading::Refuses(raw) => Err(invalid(alloc, raw)?),
+            Reading::Rejects(raw) => Err(invalid(alloc, raw)?),
         }
     }
 }
 
-/// The refusal of a text alone.
+/// Returns the error of a text, without name and position.
 pub fn invalid(alloc: Global, raw: &str) -> Result<TemplateError, AllocError>
     ensures { IfOk result (λ e. template_refusal_of e ≡ invalid raw.now) }
 {
@@ -45,69 +49,71 @@ pub fn invalid(alloc: Global, raw: &str) -> Result<TemplateError, AllocError>
     Ok(TemplateError::of(TemplateErrorReason::InvalidParam(raw)))
 }
 
-/// A parameter, or the text that is refused.
+/// A parameter, or the text that is rejected.
 #[derive(Drop)]
 enum Reading<'a> {
     Reads(Parameter),
-    Refuses(&'a str),
+    Rejects(&'a str),
 }
 
 fn read_parameter<'a>(alloc: Global, text: &'a str) -> Result<Reading<'a>, AllocError>
     ensures { IfOk result (λ reading. Parses text.now (reading_view reading)) }
 {
-    match behind_byte(b'(', text) {
+    match after_byte(b'(', text) {
         Some(inside) => read_nested(alloc, text, inside),
         None => read_single(alloc, text),
     }
 }
 
-// How deep the line is that stands between an opening parenthesis and the closing one at the end.
+// The depth of the expression between an opening parenthesis and the closing one at the end.
 fn nested_depth(alloc: Global, inside: &str) -> Result<Option<usize>, AllocError>
     ensures { IfOk result (λ read. MatchOption read (NoNested inside.now) (λ depth. HasNested inside.now depth)) }
 {
-    let line = behind_white(inside);
-    let Some(slice) = split_line(alloc, NameMode::Value, Enclosure::Parentheses, line)? else {
+    let expression = after_white(inside);
+    let Some(token) = split_expression(alloc, NameMode::Value, Enclosure::Parentheses, expression)?
+    else {
         return Ok(None);
     };
-    let Some(rest) = behind_byte(b')', behind_white(slice.rest)) else {
+    let Some(rest) = after_byte(b')', after_white(token.rest)) else {
         return Ok(None);
     };
     if rest.is_empty() {
-        Ok(Some(slice.depth))
+        Ok(Some(token.depth))
     } else {
         Ok(None)
     }
 }
 
-// Behind an opening parenthesis.
+// Reads a text that begins with an opening parenthesis, from what is inside.
 fn read_nested<'a>(alloc: Global, text: &'a str, inside: &'a str) -> Result<Reading<'a>, AllocError>
-    ensures { IfOk result (λ reading. behind_byte left_parenthesis text.now ≡ Some inside.now
+    ensures { IfOk result (λ reading. after_byte left_parenthesis text.now ≡ Some inside.now
         → Parses text.now (reading_view reading)) }
 {
     let Some(depth) = nested_depth(alloc, inside)? else {
-        return Ok(Reading::Refuses(text));
+        return Ok(Reading::Rejects(text));
     };
     if depth >= MAX_NESTING {
-        return Ok(Reading::Refuses(text));
+        return Ok(Reading::Rejects(text));
     }
-    let line = behind_white(inside);
-    let Some(built) = build_line(alloc, NameMode::Value, Enclosure::Parentheses, line)? else {
-        return Ok(Reading::Refuses(text));
+    let expression = after_white(inside);
+    let Some(built) = build_expression(alloc, NameMode::Value, Enclosure::Parentheses, expression)?
+    else {
+        return Ok(Reading::Rejects(text));
     };
-    if let Some(raw) = built.refused {
-        return Ok(Reading::Refuses(raw));
+    if let Some(raw) = built.rejected {
+        return Ok(Reading::Rejects(raw));
     }
     let call = built.subexpression(alloc)?;
     Ok(Reading::Reads(Parameter::Subexpression(call)))
 }
 
-// In front of a text with no opening parenthesis.
+// Reads a text that begins with no opening parenthesis.
 fn read_single<'a>(alloc: Global, text: &'a str) -> Result<Reading<'a>, AllocError>
-    ensures { IfOk result (λ reading. behind_byte left_parenthesis text.now ≡ None
+    ensures { IfOk result (λ reading. after_byte left_parenthesis text.now ≡ None
         → Parses text.now (reading_view reading)) }
 {
     match split_literal(alloc, text)? {
-        Some(slice) => read_literal(alloc, text, slice),
+        Some(token) => read_literal(alloc, text, token),
         None => read_path(alloc, text),
     }
 }
@@ -115,29 +121,29 @@ fn read_single<'a>(alloc: Global, text: &'a str) -> Result<Reading<'a>, AllocErr
 fn read_literal<'a>(
     alloc: Global,
     text: &'a str,
-    slice: LiteralSlice<'a>,
+    token: LiteralToken<'a>,
 ) -> Result<Reading<'a>, AllocError>
-    ensures { IfOk result (λ reading. behind_byte left_parenthesis text.now ≡ None
-        → HasLiteral text.now (literal_slice_of slice.entry) → Parses text.now (reading_view reading)) }
+    ensures { IfOk result (λ reading. after_byte left_parenthesis text.now ≡ None
+        → HasLiteral text.now (literal_token_of token.entry) → Parses text.now (reading_view reading)) }
 {
-    if !slice.rest.is_empty() {
-        return Ok(Reading::Refuses(text));
+    if !token.rest.is_empty() {
+        return Ok(Reading::Rejects(text));
     }
-    if slice.depth > MAX_NESTING {
-        return Ok(Reading::Refuses(text));
+    if token.depth > MAX_NESTING {
+        return Ok(Reading::Rejects(text));
     }
-    match literal_value(alloc, slice.raw)? {
+    match literal_value(alloc, token.raw)? {
         Some(value) => Ok(Reading::Reads(Parameter::Literal(value))),
-        None => Ok(Reading::Refuses(slice.raw)),
+        None => Ok(Reading::Rejects(token.raw)),
     }
 }
 
 fn read_path<'a>(alloc: Global, text: &'a str) -> Result<Reading<'a>, AllocError>
-    ensures { IfOk result (λ reading. behind_byte left_parenthesis text.now ≡ None
+    ensures { IfOk result (λ reading. after_byte left_parenthesis text.now ≡ None
         → NoLiteral text.now → Parses text.now (reading_view reading)) }
 {
     match path_of(alloc, text)? {
         Some(path) => Ok(Reading::Reads(Parameter::Path(path))),
-        None => Ok(Reading::Refuses(text)),
+        None => Ok(Reading::Rejects(text)),
     }
 }

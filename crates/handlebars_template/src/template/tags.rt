@@ -1,46 +1,46 @@
-//! What is built of tags, and how they stand in the nesting.
+//! Builds elements and block openings from tags, and adds them to the nesting.
 
 ghost use Rattle.std.specs.Prelude.{◌≡◌, true, None, IfOk, OnOk, option_map, string_bytes};
 ghost use Rattle.handlebars_base.specs.Bytes.{Text};
 ghost use Rattle.handlebars_base.specs.Path.{IsIdentifier};
 ghost use Rattle.handlebars_base.specs.PathView.{reference_of};
-ghost use Rattle.handlebars_lines.specs.Alone.{IsAlone};
-ghost use Rattle.handlebars_lines.specs.Line.{value_name, close_name, Line, in_tag, IsLine};
-ghost use Rattle.handlebars_lines.specs.BindingView.{bound_names_of};
-ghost use Rattle.handlebars_tags.specs.Tag.{Tag, chain_tag, decorator_tag, partial_tag, partial_block_tag, tag_depth, is_raw_close, BlockLine};
-ghost use Rattle.handlebars_tags.specs.Options.{Options};
-ghost use Rattle.handlebars_tags.specs.Trim.{Edge as TextEdge, may_stand_alone, opens_raw, takes_blanks, edge_with};
-ghost use Rattle.handlebars_tags.specs.TrimView.{edge_view};
-ghost use Rattle.handlebars_tags.specs.TagView.{Holds, IsBlockSlice};
-ghost use Rattle.handlebars_template.specs.LineBuildingView.{IsPathAlone};
+ghost use Rattle.handlebars_expressions.specs.Alone.{IsAlone};
+ghost use Rattle.handlebars_expressions.specs.Expression.{value_name, close_name, Expression, in_tag, IsExpression};
+ghost use Rattle.handlebars_expressions.specs.BindingView.{bound_names_of};
+ghost use Rattle.handlebars_lexer.specs.Tag.{Tag, chain_tag, decorator_tag, partial_tag, partial_block_tag, tag_depth, is_raw_close, BlockExpression};
+ghost use Rattle.handlebars_lexer.specs.Options.{Options};
+ghost use Rattle.handlebars_lexer.specs.Trim.{WhitespaceControl as TextWhitespaceControl, may_be_standalone, opens_raw, takes_blanks, control_with};
+ghost use Rattle.handlebars_lexer.specs.TrimView.{control_view};
+ghost use Rattle.handlebars_lexer.specs.TagView.{Holds, IsBlockToken};
+ghost use Rattle.handlebars_template.specs.ExpressionBuildingView.{IsPathAlone};
 ghost use Rattle.handlebars_template.specs.OptionsView.{options_view};
-ghost use Rattle.handlebars_template.specs.Place.{Place};
-ghost use Rattle.handlebars_template.specs.TreeView.{call_view, element_view, param_view, place_of};
+ghost use Rattle.handlebars_template.specs.Position.{Position};
+ghost use Rattle.handlebars_template.specs.TreeView.{call_view, element_view, param_view, position_of};
 ghost use Rattle.handlebars_template.specs.Tree.{comment, name, no_arguments};
-ghost use Rattle.handlebars_template.specs.Calls.{first_refused, literals_in};
+ghost use Rattle.handlebars_template.specs.Calls.{first_rejected, literals_in};
 ghost use Rattle.handlebars_template.specs.Nest.{leaf, opens};
-ghost use Rattle.handlebars_template.specs.NestView.{names_view, kind_view, opening_view, early, Looks, Does};
-ghost use Rattle.handlebars_template.specs.Cut.{may_follow};
+ghost use Rattle.handlebars_template.specs.NestView.{names_view, kind_view, opening_view, early, Looks, AppliesPiece};
+ghost use Rattle.handlebars_template.specs.Tokens.{may_follow};
 ghost use Rattle.handlebars_template.specs.ScanView.{value_element, value_piece, IsOpening, KnowsName};
-ghost use Rattle.handlebars_template.specs.Compile.{block_binding, is_indented, opening_of, closing_name, indentation, tag_piece};
+ghost use Rattle.handlebars_template.specs.Compile.{block_binding, is_indented, opening_of, closing_name, partial_indentation, tag_piece};
 
 use crate::template::arguments::Arguments;
 use crate::template::build::known_path;
 use crate::template::chain::{BlockKind, BlockNames, BlockOpening};
 use crate::template::compile::TemplateOptions;
-use crate::template::line::{build_terms, named_arguments, path_line};
-use crate::template::nest::{Nesting, SyntaxFault};
+use crate::template::expression::{build_terms, named_arguments, path_expression};
+use crate::template::nest::{Nesting, SyntaxError};
 use crate::template::tree::{HelperTemplate, Parameter, TemplateElement, TemplateMapping};
 use handlebars_base::json::path::Path;
-use handlebars_lines::binding::BoundNames;
-use handlebars_lines::line::{Enclosure, NameMode};
-use handlebars_tags::tag::{BlockSlice, Content, PathSlice, TagSlice};
-use handlebars_tags::trim::{Edge, edge_at};
+use handlebars_expressions::binding::BoundNames;
+use handlebars_expressions::expression::{Enclosure, NameMode};
+use handlebars_lexer::tag::{BlockToken, Content, PathToken, TagToken};
+use handlebars_lexer::trim::{WhitespaceControl, control_at};
 use std::alloc::{AllocError, Global};
 
-// Whether it may stand alone on its line: values never do.
-fn may_stand_alone(content: Content<'_>) -> bool
-    ensures { (tag : Tag) → Holds content.entry tag → result ≡ may_stand_alone tag }
+// Whether a tag may be standalone on its line. Values never are.
+fn may_be_standalone(content: Content<'_>) -> bool
+    ensures { (tag : Tag) → Holds content.entry tag → result ≡ may_be_standalone tag }
 {
     match content {
         Content::Expression(_) => false,
@@ -81,7 +81,7 @@ fn opens_raw(content: Content<'_>) -> bool
     }
 }
 
-// An inclusion without a block may have the blanks before it as its indentation.
+// Whether the blanks before a tag may be its indentation, as they may for a partial without a block.
 fn takes_blanks(content: Content<'_>) -> bool
     ensures { (tag : Tag) → Holds content.entry tag → result ≡ takes_blanks tag }
 {
@@ -124,32 +124,34 @@ fn closes_raw(content: Content<'_>) -> bool
     }
 }
 
-/// Behind the opening of a raw block only its end may stand.
-pub fn may_follow(edge: Edge<'_>, content: Content<'_>) -> bool
-    ensures { (tag : Tag) → Holds content.entry tag → result ≡ may_follow (edge_view edge.entry) tag }
+/// Returns whether a tag may follow this whitespace control: after the opening of a raw block, only its end may.
+pub fn may_follow(control: WhitespaceControl<'_>, content: Content<'_>) -> bool
+    ensures { (tag : Tag) → Holds content.entry tag → result ≡ may_follow (control_view control.entry) tag }
 {
-    !edge.is_raw || closes_raw(content)
+    !control.is_raw || closes_raw(content)
 }
 
-/// What a tag does to the texts beside it, behind a line that is fresh or not and ends with these blanks.
-pub fn edge_behind<'s>(fresh: bool, blanks: &'s str, tag: TagSlice<'_>) -> Edge<'s>
-    ensures { (t : Tag) → Holds tag.entry.content t → edge_view result
-        ≡ edge_with fresh blanks.now t (record { left = tag.entry.left; right = tag.entry.right }) tag.entry.rest.now }
+/// Returns the whitespace control of a tag: what it does to the texts beside it, after a line that is fresh or not and ends
+/// with these blanks.
+pub fn control_after<'s>(fresh: bool, blanks: &'s str, tag: TagToken<'_>) -> WhitespaceControl<'s>
+    ensures { (t : Tag) → Holds tag.entry.content t → control_view result
+        ≡ control_with fresh blanks.now t (record { left = tag.entry.left; right = tag.entry.right }) tag.entry.rest.now }
 {
-    let sides = Edge {
-        standalone: may_stand_alone(tag.content),
+    let sides = WhitespaceControl {
+        standalone: may_be_standalone(tag.content),
         blanks,
         left: tag.left,
         right: tag.right,
         is_raw: opens_raw(tag.content),
         takes_blanks: takes_blanks(tag.content),
     };
-    edge_at(fresh, sides, tag.rest)
+    control_at(fresh, sides, tag.rest)
 }
 
-/// Whether a tag may stand next, with this many parentheses and brackets open in it. Nothing is built of it yet.
-pub fn look(nesting: &Nesting, content: Content<'_>, depth: usize) -> Option<SyntaxFault>
-    ensures { (options : Options) (p : Place) (e : TextEdge) (tag : Tag) → Holds content.entry tag → tag_depth tag ≡ depth
+/// Checks whether a tag may come next, with this many parentheses and brackets open in it, before anything is built from it.
+/// Returns the error, if there is one.
+pub fn look(nesting: &Nesting, content: Content<'_>, depth: usize) -> Option<SyntaxError>
+    ensures { (options : Options) (p : Position) (e : TextWhitespaceControl) (tag : Tag) → Holds content.entry tag → tag_depth tag ≡ depth
         → Looks p (early nesting.now (tag_piece options p e tag)) result }
 {
     match content {
@@ -184,26 +186,26 @@ fn block_names(alloc: Global, binding: BoundNames<'_>) -> Result<BlockNames, All
     }
 }
 
-// Indentation goes before what a tag writes where it stands alone, without a tilde in front.
-fn is_indented(edge: Edge<'_>) -> bool
-    ensures { result ≡ is_indented (edge_view edge.entry) }
+// Whether indentation is written before the output of a tag: the tag is alone on its line and has no tilde at its start.
+fn is_indented(control: WhitespaceControl<'_>) -> bool
+    ensures { result ≡ is_indented (control_view control.entry) }
 {
-    edge.standalone && !edge.left
+    control.standalone && !control.left
 }
 
-/// What the tag of a block or of a decorator says, and the first of its literals that is refused.
+/// The content of the tag of a block or of a decorator, and the first of its literals that is rejected.
 #[derive(Drop)]
 struct BuiltOpening<'a> {
     opening: BlockOpening,
-    refused: Option<&'a str>,
+    rejected: Option<&'a str>,
 }
 
-// With a name by its text, and no arguments yet.
+// An opening with a name given by its text, and no arguments yet.
 fn bare_opening(
     alloc: Global,
-    block: BlockSlice<'_>,
+    block: BlockToken<'_>,
     kind: BlockKind,
-    edge: Edge<'_>,
+    control: WhitespaceControl<'_>,
 ) -> Result<BlockOpening, AllocError>
     ensures { IfOk result (λ opening. opening_view opening
         ≡ record {
@@ -212,7 +214,7 @@ fn bare_opening(
           closing = block.entry.name.now;
           arguments = no_arguments;
           binding = block_binding (bound_names_of block.entry.binding);
-          indent = is_indented (edge_view edge.entry);
+          indent = is_indented (control_view control.entry);
         }) }
 {
     let name = String::from_str(alloc, block.name)?;
@@ -224,50 +226,56 @@ fn bare_opening(
         closing,
         arguments: Arguments::new(alloc),
         names,
-        indent_before_write: is_indented(edge),
+        indent_before_write: is_indented(control),
     })
 }
 
-// Where no line of a block stands there, the answer says nothing.
+// The opening of a block. If there is no block expression, the result is inconclusive.
 fn opening<'a>(
     alloc: Global,
-    block: BlockSlice<'a>,
+    block: BlockToken<'a>,
     kind: BlockKind,
-    edge: Edge<'_>,
+    control: WhitespaceControl<'_>,
 ) -> Result<Option<BuiltOpening<'a>>, AllocError>
-    ensures { IfOk result (λ built. (line : BlockLine) (rest : Text) → IsBlockSlice block.entry line rest
-        → IsOpening (kind_view kind) (edge_view edge.entry) line built) }
+    ensures { IfOk result (λ built. (expression : BlockExpression) (rest : Text) → IsBlockToken block.entry expression rest
+        → IsOpening (kind_view kind) (control_view control.entry) expression built) }
 {
     let Some(arguments) = named_arguments(alloc, block.path)? else {
-        return opening_by_terms(alloc, block, kind, edge);
+        return opening_by_terms(alloc, block, kind, control);
     };
-    let mut opening = bare_opening(alloc, block, kind, edge)?;
+    let mut opening = bare_opening(alloc, block, kind, control)?;
     opening.arguments = arguments;
     Ok(Some(BuiltOpening {
         opening,
-        refused: None,
+        rejected: None,
     }))
 }
 
-// What opens a block, built term by term, for a line of any parameters, and for one that a path names.
+// The opening of a block, built term by term: for an expression with any parameters, and for one whose name is a path.
 #[inline(never)]
 fn opening_by_terms<'a>(
     alloc: Global,
-    block: BlockSlice<'a>,
+    block: BlockToken<'a>,
     kind: BlockKind,
-    edge: Edge<'_>,
+    control: WhitespaceControl<'_>,
 ) -> Result<Option<BuiltOpening<'a>>, AllocError>
-    ensures { IfOk result (λ built. (line : BlockLine) (rest : Text) → IsBlockSlice block.entry line rest
-        → IsOpening (kind_view kind) (edge_view edge.entry) line built) }
+    ensures { IfOk result (λ built. (expression : BlockExpression) (rest : Text) → IsBlockToken block.entry expression rest
+        → IsOpening (kind_view kind) (control_view control.entry) expression built) }
 {
-    let Some(line) = build_terms(alloc, NameMode::Opening, Enclosure::Block, block.line)? else {
+    let Some(expression) = build_terms(
+        alloc,
+        NameMode::Opening,
+        Enclosure::Block,
+        block.expression,
+    )?
+    else {
         return Ok(None);
     };
-    let refused = line.refused;
+    let rejected = expression.rejected;
     let closing = String::from_str(alloc, block.name)?;
     let names = block_names(alloc, block.binding)?;
-    let opening = line.opening(kind, closing, names, is_indented(edge));
-    Ok(Some(BuiltOpening { opening, refused }))
+    let opening = expression.opening(kind, closing, names, is_indented(control));
+    Ok(Some(BuiltOpening { opening, rejected }))
 }
 
 #[inline(always)]
@@ -281,21 +289,21 @@ fn value_element(is_escaped: bool, call: Box<HelperTemplate>) -> TemplateElement
     }
 }
 
-// A path that is alone in its tag.
+// Adds the value of a path that is alone in its tag.
 #[inline(never)]
 fn add_path(
     alloc: Global,
     nesting: &mut Nesting,
     at: TemplateMapping,
-    slice: PathSlice<'_>,
+    token: PathToken<'_>,
 ) -> Result<(), AllocError>
-    requires { slice.is_name ≡ true → IsIdentifier slice.raw.now }
-    ensures { OnOk result ((line : Line) (text behind left : Text) → IsLine value_name in_tag text line behind
-        → IsAlone in_tag text slice.entry.raw.now left
-        → Does nesting.old (value_piece slice.entry.is_escaped (place_of at) line) nesting.new) }
+    requires { token.is_name ≡ true → IsIdentifier token.raw.now }
+    ensures { OnOk result ((expression : Expression) (text after left : Text) → IsExpression value_name in_tag text expression after
+        → IsAlone in_tag text token.entry.raw.now left
+        → AppliesPiece nesting.old (value_piece token.entry.is_escaped (position_of at) expression) nesting.new) }
 {
-    match known_path(alloc, slice.raw, slice.is_name)? {
-        Some(path) => add_known(alloc, nesting, at, path, slice.is_escaped),
+    match known_path(alloc, token.raw, token.is_name)? {
+        Some(path) => add_known(alloc, nesting, at, path, token.is_escaped),
         None => Ok(()),
     }
 }
@@ -308,14 +316,14 @@ fn add_known(
     path: Path,
     is_escaped: bool,
 ) -> Result<(), AllocError>
-    ensures { OnOk result ((line : Line) → IsPathAlone line (reference_of path)
-        → Does nesting.old (value_piece is_escaped (place_of at) line) nesting.new) }
+    ensures { OnOk result ((expression : Expression) → IsPathAlone expression (reference_of path)
+        → AppliesPiece nesting.old (value_piece is_escaped (position_of at) expression) nesting.new) }
 {
-    let call = path_line(alloc, path).call().boxed(alloc)?;
+    let call = path_expression(alloc, path).call().boxed(alloc)?;
     nesting.add(alloc, at, value_element(is_escaped, call), None)
 }
 
-// A value of other terms.
+// Adds a value of other terms.
 #[inline(never)]
 fn add_terms(
     alloc: Global,
@@ -324,31 +332,31 @@ fn add_terms(
     text: &str,
     is_escaped: bool,
 ) -> Result<(), AllocError>
-    ensures { OnOk result ((line : Line) (rest : Text) → IsLine value_name in_tag text.now line rest
-        → Does nesting.old (value_piece is_escaped (place_of at) line) nesting.new) }
+    ensures { OnOk result ((expression : Expression) (rest : Text) → IsExpression value_name in_tag text.now expression rest
+        → AppliesPiece nesting.old (value_piece is_escaped (position_of at) expression) nesting.new) }
 {
-    let Some(line) = build_terms(alloc, NameMode::Value, Enclosure::Tag, text)? else {
+    let Some(expression) = build_terms(alloc, NameMode::Value, Enclosure::Tag, text)? else {
         return Ok(());
     };
-    let refused = line.refused;
-    let call = line.call().boxed(alloc)?;
-    nesting.add(alloc, at, value_element(is_escaped, call), refused)
+    let rejected = expression.rejected;
+    let call = expression.call().boxed(alloc)?;
+    nesting.add(alloc, at, value_element(is_escaped, call), rejected)
 }
 
 fn begin(
     alloc: Global,
     nesting: &mut Nesting,
     at: TemplateMapping,
-    block: BlockSlice<'_>,
+    block: BlockToken<'_>,
     kind: BlockKind,
-    edge: Edge<'_>,
+    control: WhitespaceControl<'_>,
 ) -> Result<(), AllocError>
-    ensures { OnOk result ((line : BlockLine) (rest : Text) → IsBlockSlice block.entry line rest
-        → Does nesting.old (opens (place_of at) (opening_of (kind_view kind) (edge_view edge.entry) line) line.depth
-        (first_refused (literals_in line.terms))) nesting.new) }
+    ensures { OnOk result ((expression : BlockExpression) (rest : Text) → IsBlockToken block.entry expression rest
+        → AppliesPiece nesting.old (opens (position_of at) (opening_of (kind_view kind) (control_view control.entry) expression) expression.depth
+        (first_rejected (literals_in expression.terms))) nesting.new) }
 {
-    match opening(alloc, block, kind, edge)? {
-        Some(built) => nesting.begin(alloc, at, built.opening, built.refused),
+    match opening(alloc, block, kind, control)? {
+        Some(built) => nesting.begin(alloc, at, built.opening, built.rejected),
         None => Ok(()),
     }
 }
@@ -358,14 +366,14 @@ fn chain(
     alloc: Global,
     nesting: &mut Nesting,
     at: TemplateMapping,
-    block: BlockSlice<'_>,
-    edge: Edge<'_>,
+    block: BlockToken<'_>,
+    control: WhitespaceControl<'_>,
 ) -> Result<(), AllocError>
-    ensures { OnOk result ((options : Options) (line : BlockLine) (rest : Text) → IsBlockSlice block.entry line rest
-        → Does nesting.old (tag_piece options (place_of at) (edge_view edge.entry) (chain_tag line)) nesting.new) }
+    ensures { OnOk result ((options : Options) (expression : BlockExpression) (rest : Text) → IsBlockToken block.entry expression rest
+        → AppliesPiece nesting.old (tag_piece options (position_of at) (control_view control.entry) (chain_tag expression)) nesting.new) }
 {
-    match opening(alloc, block, BlockKind::Helper, edge)? {
-        Some(built) => nesting.chain(alloc, at, built.opening, built.refused),
+    match opening(alloc, block, BlockKind::Helper, control)? {
+        Some(built) => nesting.chain(alloc, at, built.opening, built.rejected),
         None => Ok(()),
     }
 }
@@ -375,38 +383,38 @@ fn add_decorator(
     alloc: Global,
     nesting: &mut Nesting,
     at: TemplateMapping,
-    block: BlockSlice<'_>,
-    edge: Edge<'_>,
+    block: BlockToken<'_>,
+    control: WhitespaceControl<'_>,
 ) -> Result<(), AllocError>
-    ensures { OnOk result ((options : Options) (line : BlockLine) (rest : Text) → IsBlockSlice block.entry line rest
-        → Does nesting.old (tag_piece options (place_of at) (edge_view edge.entry) (decorator_tag line)) nesting.new) }
+    ensures { OnOk result ((options : Options) (expression : BlockExpression) (rest : Text) → IsBlockToken block.entry expression rest
+        → AppliesPiece nesting.old (tag_piece options (position_of at) (control_view control.entry) (decorator_tag expression)) nesting.new) }
 {
-    let Some(built) = opening(alloc, block, BlockKind::Decorator, edge)? else {
+    let Some(built) = opening(alloc, block, BlockKind::Decorator, control)? else {
         return Ok(());
     };
-    let refused = built.refused;
+    let rejected = built.rejected;
     let tag = Box::new(alloc, built.opening.decorator(None))?;
     nesting.add(
         alloc,
         at,
         TemplateElement::DecoratorExpression(tag),
-        refused,
+        rejected,
     )
 }
 
-// The blanks before an inclusion without a block, where they are its indentation.
+// The blanks before a partial without a block, if they are its indentation.
 fn indentation(
     alloc: Global,
     options: &TemplateOptions,
-    edge: Edge<'_>,
+    control: WhitespaceControl<'_>,
 ) -> Result<Option<String>, AllocError>
     ensures { IfOk result (λ indent. option_map string_bytes indent
-        ≡ indentation (options_view options.now) (edge_view edge.entry)) }
+        ≡ partial_indentation (options_view options.now) (control_view control.entry)) }
 {
-    if options.prevent_indent || edge.left || edge.blanks.is_empty() {
+    if options.prevent_indent || control.left || control.blanks.is_empty() {
         return Ok(None);
     }
-    Ok(Some(String::from_str(alloc, edge.blanks)?))
+    Ok(Some(String::from_str(alloc, control.blanks)?))
 }
 
 #[inline(never)]
@@ -416,21 +424,21 @@ fn add_partial(
     options: &TemplateOptions,
     at: TemplateMapping,
     text: &str,
-    edge: Edge<'_>,
+    control: WhitespaceControl<'_>,
 ) -> Result<(), AllocError>
-    ensures { OnOk result ((line : Line) (rest : Text) → IsLine close_name in_tag text.now line rest
-        → Does nesting.old (tag_piece (options_view options.now) (place_of at) (edge_view edge.entry) (partial_tag line)) nesting.new) }
+    ensures { OnOk result ((expression : Expression) (rest : Text) → IsExpression close_name in_tag text.now expression rest
+        → AppliesPiece nesting.old (tag_piece (options_view options.now) (position_of at) (control_view control.entry) (partial_tag expression)) nesting.new) }
 {
-    let Some(line) = build_terms(alloc, NameMode::Close, Enclosure::Tag, text)? else {
+    let Some(expression) = build_terms(alloc, NameMode::Close, Enclosure::Tag, text)? else {
         return Ok(());
     };
-    let refused = line.refused;
-    let indent = indentation(alloc, options, edge)?;
-    let tag = Box::new(alloc, line.inclusion(indent, is_indented(edge)))?;
-    nesting.add(alloc, at, TemplateElement::PartialExpression(tag), refused)
+    let rejected = expression.rejected;
+    let indent = indentation(alloc, options, control)?;
+    let tag = Box::new(alloc, expression.inclusion(indent, is_indented(control)))?;
+    nesting.add(alloc, at, TemplateElement::PartialExpression(tag), rejected)
 }
 
-// The name that closes the block of an inclusion.
+// The name that closes a partial block.
 fn closing_name(alloc: Global, name: &Parameter) -> Result<String, AllocError>
     ensures { IfOk result (λ closing. string_bytes closing ≡ closing_name (param_view name.now)) }
 {
@@ -444,19 +452,19 @@ fn begin_partial(
     nesting: &mut Nesting,
     at: TemplateMapping,
     text: &str,
-    edge: Edge<'_>,
+    control: WhitespaceControl<'_>,
 ) -> Result<(), AllocError>
-    ensures { OnOk result ((options : Options) (line : Line) (rest : Text) → IsLine close_name in_tag text.now line rest
-        → Does nesting.old (tag_piece options (place_of at) (edge_view edge.entry) (partial_block_tag line)) nesting.new) }
+    ensures { OnOk result ((options : Options) (expression : Expression) (rest : Text) → IsExpression close_name in_tag text.now expression rest
+        → AppliesPiece nesting.old (tag_piece options (position_of at) (control_view control.entry) (partial_block_tag expression)) nesting.new) }
 {
-    let Some(line) = build_terms(alloc, NameMode::Close, Enclosure::Tag, text)? else {
+    let Some(expression) = build_terms(alloc, NameMode::Close, Enclosure::Tag, text)? else {
         return Ok(());
     };
-    let refused = line.refused;
-    let closing = closing_name(alloc, &line.name)?;
+    let rejected = expression.rejected;
+    let closing = closing_name(alloc, &expression.name)?;
     let names = BlockNames::Unbound;
-    let opening = line.opening(BlockKind::Partial, closing, names, is_indented(edge));
-    nesting.begin(alloc, at, opening, refused)
+    let opening = expression.opening(BlockKind::Partial, closing, names, is_indented(control));
+    nesting.begin(alloc, at, opening, rejected)
 }
 
 #[inline(never)]
@@ -466,41 +474,41 @@ fn add_comment(
     at: TemplateMapping,
     text: &str,
 ) -> Result<(), AllocError>
-    ensures { OnOk result (Does nesting.old (leaf (place_of at) (comment text.now) 0 None) nesting.new) }
+    ensures { OnOk result (AppliesPiece nesting.old (leaf (position_of at) (comment text.now) 0 None) nesting.new) }
 {
     let text = TemplateElement::Comment(String::from_str(alloc, text)?);
     nesting.add(alloc, at, text, None)
 }
 
-/// A tag stands next, at this place and with this edge.
+/// Adds a tag, at this position and with this whitespace control.
 pub fn take_tag(
     alloc: Global,
     nesting: &mut Nesting,
     options: &TemplateOptions,
     at: TemplateMapping,
     content: Content<'_>,
-    edge: Edge<'_>,
+    control: WhitespaceControl<'_>,
 ) -> Result<(), AllocError>
     requires { KnowsName content }
     ensures { OnOk result ((tag : Tag) → Holds content.entry tag
-        → Does nesting.old (tag_piece (options_view options.now) (place_of at) (edge_view edge.entry) tag) nesting.new) }
+        → AppliesPiece nesting.old (tag_piece (options_view options.now) (position_of at) (control_view control.entry) tag) nesting.new) }
 {
     match content {
         Content::Expression(text) => add_terms(alloc, nesting, at, text, true),
         Content::Html(text) => add_terms(alloc, nesting, at, text, false),
-        Content::Path(slice) => add_path(alloc, nesting, at, slice),
-        Content::Block(block) => begin(alloc, nesting, at, block, BlockKind::Helper, edge),
+        Content::Path(token) => add_path(alloc, nesting, at, token),
+        Content::Block(block) => begin(alloc, nesting, at, block, BlockKind::Helper, control),
         Content::Inverse => nesting.invert(alloc, at),
-        Content::Chain(block) => chain(alloc, nesting, at, block, edge),
+        Content::Chain(block) => chain(alloc, nesting, at, block, control),
         Content::Close(name) => nesting.close(alloc, at, false, name),
-        Content::RawBlock(block) => begin(alloc, nesting, at, block, BlockKind::Raw, edge),
+        Content::RawBlock(block) => begin(alloc, nesting, at, block, BlockKind::Raw, control),
         Content::RawClose(name) => nesting.close(alloc, at, true, name),
-        Content::Decorator(block) => add_decorator(alloc, nesting, at, block, edge),
+        Content::Decorator(block) => add_decorator(alloc, nesting, at, block, control),
         Content::DecoratorBlock(block) => {
-            begin(alloc, nesting, at, block, BlockKind::Decorator, edge)
+            begin(alloc, nesting, at, block, BlockKind::Decorator, control)
         }
-        Content::Partial(text) => add_partial(alloc, nesting, options, at, text, edge),
-        Content::PartialBlock(text) => begin_partial(alloc, nesting, at, text, edge),
+        Content::Partial(text) => add_partial(alloc, nesting, options, at, text, control),
+        Content::PartialBlock(text) => begin_partial(alloc, nesting, at, text, control),
         Content::Comment(text) => add_comment(alloc, nesting, at, text),
     }
 }

@@ -1,16 +1,16 @@
 //! The tree of a template.
 
 ghost use Rattle.std.specs.Prelude.{◌≡◌, true, false, None, IfOk, option_map};
-ghost use Rattle.handlebars_template.specs.Tree.{args, empty_tree, as_name, is_value, expression, expression_call, is_helper, element_name, call_params, call_pairs, call_marks};
+ghost use Rattle.handlebars_template.specs.Tree.{args, empty_tree, as_name, is_value, escaped_expression, expression_call, is_helper, element_name, call_params, call_hash, call_marks};
 ghost use Rattle.handlebars_template.specs.Calls.{plain_call};
-ghost use Rattle.handlebars_template.specs.TreeView.{tree_view, param_view, params_view, pairs_view, call_view, decorator_view, element_view, subexpression_view, spec_call, spec_decorator};
+ghost use Rattle.handlebars_template.specs.TreeView.{tree_view, param_view, params_view, hash_view, call_view, decorator_view, element_view, subexpression_view, spec_call, spec_decorator};
 
 use handlebars_base::json::path::Path;
 use handlebars_base::json::value::Json;
 use std::alloc::{AllocError, Global};
 use std::collections::BTreeMap;
 
-/// Where an element begins: line and column from 1, the column in characters.
+/// The position at which an element begins: line and column, both counted from 1, the column in characters.
 #[derive(Clone, Copy, Debug, PartialEq, Eq)]
 pub struct TemplateMapping(pub usize, pub usize);
 
@@ -24,7 +24,7 @@ pub struct Template {
 }
 
 impl Template {
-    /// A template with no name and no element.
+    /// Creates a template with no name and no elements.
     pub fn new(alloc: Global) -> Template
         ensures { tree_view result ≡ empty_tree }
     {
@@ -51,7 +51,7 @@ pub enum TemplateElement {
     Comment(String),
 }
 
-/// A value or a call of a helper, with its bodies where it is a block.
+/// A value or a helper call, with its bodies if it is a block.
 #[derive(Debug, PartialEq, Drop)]
 #[cycle(tree)]
 pub struct HelperTemplate {
@@ -67,7 +67,7 @@ pub struct HelperTemplate {
 }
 
 impl HelperTemplate {
-    /// What a tag says, without bodies.
+    /// Creates the call that a tag stands for, without bodies.
     pub fn new(spec: ExpressionSpec, block: bool, indent_before_write: bool) -> HelperTemplate
         ensures { call_view result
             ≡ spec_call spec (record { block = block; chain = false; indent_before_write = indent_before_write }) }
@@ -85,7 +85,7 @@ impl HelperTemplate {
         }
     }
 
-    /// What a chained tag says, without bodies.
+    /// Creates the call that a chained tag stands for, without bodies.
     pub fn new_chain(spec: ExpressionSpec, block: bool, indent_before_write: bool) -> HelperTemplate
         ensures { call_view result
             ≡ spec_call spec (record { block = block; chain = true; indent_before_write = indent_before_write }) }
@@ -96,7 +96,7 @@ impl HelperTemplate {
         }
     }
 
-    /// In memory of its own. It is matched, since `?` would hand the whole call on beside each answer.
+    /// Moves the call to the heap. The result is matched, since `?` would pass the whole call on along with each result.
     #[inline(always)]
     pub(crate) fn boxed(self, alloc: Global) -> Result<Box<HelperTemplate>, AllocError>
         ensures { IfOk result (λ boxed. call_view boxed.value ≡ call_view self) }
@@ -107,15 +107,15 @@ impl HelperTemplate {
         }
     }
 
-    /// Whether it is chained to the block around it, or has one chained to it.
+    /// Returns whether the block is chained to the block around it, or has one chained to it.
     pub fn is_chained(&self) -> bool
         ensures { result ≡ (call_marks (call_view self.now)).chain }
     {
         self.chain
     }
 
-    /// Of an expression: whether it stands alone, without parameters and pairs. Then it is a value, unless a helper has
-    /// its name.
+    /// Returns whether an expression is a name alone, without parameters and hash arguments. It is then a value, unless a
+    /// helper has its name.
     pub fn is_value(&self) -> bool
         ensures { result ≡ is_value (call_view self.now) }
     {
@@ -123,7 +123,7 @@ impl HelperTemplate {
     }
 }
 
-/// A decorator or an inclusion, with its body where it is a block.
+/// A decorator or a partial, with its body if it is a block.
 #[derive(Debug, PartialEq, Drop)]
 #[cycle(tree)]
 pub struct DecoratorTemplate {
@@ -136,7 +136,7 @@ pub struct DecoratorTemplate {
 }
 
 impl DecoratorTemplate {
-    /// What a tag says, without a body and an indentation.
+    /// Creates the decorator or partial that a tag stands for, without a body and without an indentation.
     pub fn new(spec: ExpressionSpec, indent_before_write: bool) -> DecoratorTemplate
         ensures { decorator_view result
             ≡ spec_decorator spec (record { indent = None; indent_before_write = indent_before_write }) }
@@ -152,7 +152,7 @@ impl DecoratorTemplate {
     }
 }
 
-/// The names that a block binds: to its value, or to its value and its index or key.
+/// The names that a block binds: one to its value, or two to its value and its index or key.
 #[derive(Debug, PartialEq, Drop)]
 #[cycle(tree)]
 pub enum BlockParam {
@@ -171,7 +171,7 @@ pub enum Parameter {
 }
 
 impl Parameter {
-    /// The text of a name or a path, as written.
+    /// Returns the text of a name or a path, as written, and `None` for a literal or a nested call.
     pub fn as_name(&self) -> Option<&str>
         ensures { option_map (λ text. text.now) result ≡ as_name (param_view self.now) }
     {
@@ -192,7 +192,7 @@ pub struct Subexpression {
 }
 
 impl Subexpression {
-    /// An expression with this name and these arguments.
+    /// Creates a subexpression with this name and these arguments.
     pub fn new(
         alloc: Global,
         name: Parameter,
@@ -200,7 +200,7 @@ impl Subexpression {
         hash: BTreeMap<String, Parameter>,
     ) -> Result<Subexpression, AllocError>
         ensures { IfOk result (λ call. subexpression_view call
-            ≡ expression (plain_call (param_view name) (args (params_view params.items) (pairs_view hash.entries)))) }
+            ≡ escaped_expression (plain_call (param_view name) (args (params_view params.items) (hash_view hash.entries)))) }
     {
         let call = HelperTemplate {
             name,
@@ -213,61 +213,61 @@ impl Subexpression {
             chain: false,
             indent_before_write: false,
         };
-        let expression = TemplateElement::Expression(call.boxed(alloc)?);
-        let element = Box::new(alloc, expression)?;
+        let escaped_expression = TemplateElement::Expression(call.boxed(alloc)?);
+        let element = Box::new(alloc, escaped_expression)?;
         Ok(Subexpression { element })
     }
 
-    /// The element that it is.
+    /// Returns the element that the subexpression is.
     pub fn as_element(&self) -> &TemplateElement
         ensures { element_view result.now ≡ subexpression_view self.now }
     {
         &self.element
     }
 
-    /// Whether it calls a helper: an expression with parameters or pairs.
+    /// Returns whether the subexpression calls a helper: whether it is an expression with parameters or hash arguments.
     pub fn is_helper(&self) -> bool
         ensures { result ≡ is_helper (subexpression_view self.now) }
     {
-        match self.expression() {
+        match self.escaped_expression() {
             Some(call) => !call.is_value(),
             None => false,
         }
     }
 
-    /// The text of its name, where that is a name or a path.
+    /// Returns the text of its name, as written, if it is an expression whose name is a name or a path.
     pub fn name(&self) -> Option<&str>
         ensures { option_map (λ text. text.now) result ≡ element_name (subexpression_view self.now) }
     {
-        match self.expression() {
+        match self.escaped_expression() {
             Some(call) => call.name.as_name(),
             None => None,
         }
     }
 
-    /// Its parameters, where it is an expression.
+    /// Returns its parameters, if it is an expression.
     pub fn params(&self) -> Option<&Vec<Parameter>>
         ensures { option_map (λ params. params_view params.now.items) result
             ≡ option_map call_params (expression_call (subexpression_view self.now)) }
     {
-        match self.expression() {
+        match self.escaped_expression() {
             Some(call) => Some(&call.params),
             None => None,
         }
     }
 
-    /// Its pairs, where it is an expression.
+    /// Returns its hash arguments, if it is an expression.
     pub fn hash(&self) -> Option<&BTreeMap<String, Parameter>>
-        ensures { option_map (λ hash. pairs_view hash.now.entries) result
-            ≡ option_map call_pairs (expression_call (subexpression_view self.now)) }
+        ensures { option_map (λ hash. hash_view hash.now.entries) result
+            ≡ option_map call_hash (expression_call (subexpression_view self.now)) }
     {
-        match self.expression() {
+        match self.escaped_expression() {
             Some(call) => Some(&call.hash),
             None => None,
         }
     }
 
-    fn expression(&self) -> Option<&HelperTemplate>
+    fn escaped_expression(&self) -> Option<&HelperTemplate>
         ensures { option_map (λ call. call_view call.now) result ≡ expression_call (subexpression_view self.now) }
     {
         match self.as_element() {
@@ -284,15 +284,15 @@ impl Subexpression {
     }
 }
 
-/// What stands in a tag between its marks.
+/// The content of a tag between its marks.
 #[derive(Debug, PartialEq, Drop)]
 pub struct ExpressionSpec {
     pub name: Parameter,
     pub params: Vec<Parameter>,
     pub hash: BTreeMap<String, Parameter>,
     pub block_param: Option<BlockParam>,
-    /// Whether a `~` in front takes the white before the tag.
+    /// Whether a `~` at the start removes the white space before the tag.
     pub omit_pre_ws: bool,
-    /// Whether a `~` at the end takes the white behind the tag.
+    /// Whether a `~` at the end removes the white space after the tag.
     pub omit_pro_ws: bool,
 }

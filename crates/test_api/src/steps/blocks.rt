@@ -1,4 +1,4 @@
-//! Blocks of scope of the render context, and in a list.
+//! Scope frames of the render context, and in a list.
 
 use handlebars::{BlockContext, Context, JsonValue, Path, RenderContext};
 use std::alloc::{AllocError, Global};
@@ -8,7 +8,7 @@ use test_steps::fields::{copied, flag, text};
 use test_steps::held::taken;
 use test_steps::scopes::{Scopes, navigate, push_front, take_block};
 
-/// What a call answers.
+/// Returns what a call answers.
 pub fn answer(
     alloc: Global,
     data: &Context,
@@ -42,7 +42,7 @@ fn of_context(alloc: Global, rc: &mut RenderContext, call: &str, step: &JsonValu
     }
 }
 
-// The path of the nearest block, if there is one.
+// The path of the innermost scope frame, if there is one.
 fn base(alloc: Global, block: Option<&BlockContext>) -> Answer {
     match block {
         Some(block) => shown(alloc, Some(block.base_path())),
@@ -50,7 +50,7 @@ fn base(alloc: Global, block: Option<&BlockContext>) -> Answer {
     }
 }
 
-// Sets a variable of the nearest block.
+// Sets a variable of the innermost scope frame.
 fn set_var(
     alloc: Global,
     rc: &mut RenderContext,
@@ -64,7 +64,7 @@ fn set_var(
     }
 }
 
-// The blocks of the list and those of the render context change places; answers how many the list has then.
+// Exchanges the scope frames of the list and those of the render context. Answers how many the list has after that.
 fn replace(alloc: Global, rc: &mut RenderContext, blocks: &mut VecDeque<BlockContext>) -> Answer {
     let list = std::mem::replace(blocks, VecDeque::new(alloc));
     *blocks = rc.replace_blocks(list);

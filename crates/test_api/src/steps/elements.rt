@@ -1,4 +1,4 @@
-//! Elements alone: of a source, or by hand.
+//! Single elements, of a source or hand-built.
 
 use crate::state::Given;
 use crate::steps::render::text_of;
@@ -10,7 +10,7 @@ use test_steps::fields::{number, text};
 use test_steps::held::Held;
 use test_steps::made::tree::{compiled, tree_around};
 
-/// What a call answers.
+/// Returns what a call answers.
 pub fn answer(given: Given<'_>, rc: &mut RenderContext, call: &str, step: &JsonValue) -> Answer {
     let source = text(step, "source");
     match call {
@@ -32,7 +32,7 @@ fn count(alloc: Global, tree: Result<Held<Template>, Stop>) -> Answer {
     }
 }
 
-// The text of the element that stands behind so many others.
+// The text of the element at this index.
 fn render(
     given: Given<'_>,
     rc: &mut RenderContext,
@@ -48,7 +48,7 @@ fn render(
     }
 }
 
-// What the first element is evaluated to.
+// The result of evaluating the first element.
 fn eval(given: Given<'_>, rc: &mut RenderContext, tree: Result<Held<Template>, Stop>) -> Answer {
     match tree {
         Ok(tree) => match tree.value.elements.first() {

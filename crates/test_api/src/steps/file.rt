@@ -11,7 +11,7 @@ use test_steps::answer::{Answer, Stop, shown, shown_if};
 use test_steps::fields::{owned, text};
 use test_steps::held::{had, let_go};
 
-/// What a call answers.
+/// Returns what a call answers.
 pub fn answer<R: Files + AllocGlobal + Clone + Drop>(
     rt: &R,
     registry: &mut Registry,
@@ -40,7 +40,7 @@ pub fn answer<R: Files + AllocGlobal + Clone + Drop>(
     }
 }
 
-// Puts a text under a path in memory.
+// Stores a text under a path in memory.
 fn put(
     texts: &mut BTreeMap<String, String>,
     path: Result<String, AllocError>,

@@ -1,28 +1,28 @@
-//! A rendering with functions that stand for helpers and for a decorator.
+//! A rendering with functions as helpers and as a decorator.
 
 ghost use Rattle.std.specs.Prelude.{◌≡◌, ◌++◌, ◌∷◌, [], MatchResult, Some, codes};
 ghost use Rattle.handlebars_base.specs.Reasons.{out_of_memory};
 ghost use Rattle.handlebars_helpers.specs.Decoration.{binds};
-ghost use Rattle.handlebars_helpers.specs.DecoratorsView.{deeds_of};
-ghost use Rattle.handlebars_helpers.specs.FnRefusals.{refused_for};
-ghost use Rattle.handlebars_helpers.specs.Own.{writes};
-ghost use Rattle.handlebars_helpers.specs.OwnView.{steps_of};
+ghost use Rattle.handlebars_helpers.specs.DecoratorsView.{actions_view};
+ghost use Rattle.handlebars_helpers.specs.FnRefusals.{fn_reason};
+ghost use Rattle.handlebars_helpers.specs.UserHelper.{writes};
+ghost use Rattle.handlebars_helpers.specs.UserView.{steps_of};
 ghost use Rattle.handlebars_helpers.specs.View.{helper_view};
-ghost use Rattle.handlebars_parts.specs.Parts.{shown_at};
+ghost use Rattle.test_parts.specs.Parts.{shown_at};
 
 use crate::part::helper_at;
 use handlebars::{
-    Context, Decorator, DecoratorEntry, DecoratorFn, FnDecorator, FnDeeds, FnHelper, FnSteps,
+    Context, Decorator, DecoratorEntry, DecoratorFn, FnActions, FnDecorator, FnHelper, FnSteps,
     Helper, HelperEntry, HelperFn, JsonValue, NoFiles, Registry,
 };
-use handlebars_parts::functions::{renamed, said};
 use log::sink::Discard;
 use std::alloc::{AllocError, Global};
+use test_parts::functions::{renamed, said};
 use test_steps::answer::{Answer, Stop, shown};
 use test_steps::fields::text;
 
-/// What a source renders to where `simple-helper` is the helper of the field `helper`, `another-simple-helper` and
-/// `closure-helper` are functions that write a text and their parameter, and `renamed` is one that makes `size` a name of `len`.
+/// Renders a source. `simple-helper` is the helper of the field `helper`. `another-simple-helper` and `closure-helper` are
+/// functions that write a text and their parameter. `renamed` is a function that makes `size` a name of `len`.
 pub fn rendered(alloc: Global, step: &JsonValue) -> Answer {
     let mut registry = Registry::new(alloc)?;
     let first = helper_at(alloc, step)?;
@@ -32,7 +32,7 @@ pub fn rendered(alloc: Global, step: &JsonValue) -> Answer {
             ensures { MatchResult result
                 (λ steps. steps_of steps
                 ≡ Some (writes (codes "2nd helper: " ++ shown_at 0 (helper_view h.now)) ∷ []))
-                (λ e. refused_for e ≡ out_of_memory) }
+                (λ e. fn_reason e ≡ out_of_memory) }
         { said(alloc, "2nd helper: ", h) },
     )?;
     let third: HelperFn = Box::new(
@@ -41,18 +41,18 @@ pub fn rendered(alloc: Global, step: &JsonValue) -> Answer {
             ensures { MatchResult result
                 (λ steps. steps_of steps
                 ≡ Some (writes (codes "3rd helper: " ++ shown_at 0 (helper_view h.now)) ∷ []))
-                (λ e. refused_for e ≡ out_of_memory) }
+                (λ e. fn_reason e ≡ out_of_memory) }
         { said(alloc, "3rd helper: ", h) },
     )?;
     let fourth: DecoratorFn = Box::new(
         alloc,
         move |_d: &Decorator, _data: &Context, _changed: &Option<
             &Context,
-        >, _strict: bool| -> FnDeeds
+        >, _strict: bool| -> FnActions
             ensures { MatchResult result
-                (λ deeds. deeds_of deeds
+                (λ actions. actions_view actions
                 ≡ binds (codes "size") (record { registered = codes "len"; constants = [] }) ∷ [])
-                (λ e. refused_for e ≡ out_of_memory) }
+                (λ e. fn_reason e ≡ out_of_memory) }
         { renamed(alloc) },
     )?;
     put(

@@ -1,11 +1,11 @@
-//! The output, and what is known of the line that is written.
+//! The output, and the state of the line that is being written.
 
 use handlebars::{JsonValue, Output, RenderContext, StringOutput, indent_aware_write};
 use std::alloc::Global;
 use test_steps::answer::{Answer, Stop, done, shown};
 use test_steps::fields::{flag, text};
 
-/// What a call answers.
+/// Returns what a call answers.
 pub fn answer(
     alloc: Global,
     rc: &mut RenderContext,
@@ -22,7 +22,7 @@ pub fn answer(
     }
 }
 
-// Whether a line has ended, whether content was written, and whether white is to come first.
+// Whether a line has ended, whether content was written, and whether whitespace is to be written first.
 fn is(alloc: Global, rc: &RenderContext) -> Answer {
     let newline = rc.get_trailine_newline();
     let content = rc.get_content_produced();

@@ -1,11 +1,11 @@
-//! Whether markup is fixed, and each place that keeps it from being so.
+//! Whether markup is fixed, and each location that prevents it.
 
 use handlebars::{JsonValue, MarkupFault, NoFiles, Registry, RenderError};
 use std::alloc::{AllocError, Global};
-use test_steps::answer::{Answer, Stop, kept, said, shown};
+use test_steps::answer::{Answer, Stop, said, shown, text_answer};
 use test_steps::fields::text;
 
-/// What a call answers.
+/// Returns what a call answers.
 pub fn answer(alloc: Global, registry: &Registry, call: &str, step: &JsonValue) -> Answer {
     match call {
         "is_fixed" => shown(alloc, registry.markup_is_fixed(&mut NoFiles)),
@@ -18,10 +18,10 @@ pub fn answer(alloc: Global, registry: &Registry, call: &str, step: &JsonValue) 
     }
 }
 
-// The places, a line each.
+// The markup faults, one a line.
 fn lists(alloc: Global, answer: Result<Vec<MarkupFault>, RenderError>) -> Answer {
     match answer {
-        Ok(faults) => kept(lines(alloc, &faults)),
+        Ok(faults) => text_answer(lines(alloc, &faults)),
         Err(error) => said(alloc, &error),
     }
 }

@@ -1,24 +1,24 @@
-//! Outputs to writers, alone.
+//! Outputs to writers, without a rendering.
 
 use handlebars::{JsonValue, Output, StringWriter, WriteOutput};
 use std::alloc::{AllocError, Global};
 use std::io;
 use std::io::Write;
-use test_steps::answer::{Answer, Stop, kept};
+use test_steps::answer::{Answer, Stop, text_answer};
 use test_steps::fields::{items, number};
 use test_steps::made::data::bytes_of;
 use test_steps::writer::Slow;
 
-/// What a call answers.
+/// Returns what a call answers.
 pub fn answer(alloc: Global, call: &str, step: &JsonValue) -> Answer {
     match call {
-        "slow" => kept(slow(alloc, number(step, "left"), items(step, "texts"))),
+        "slow" => text_answer(slow(alloc, number(step, "left"), items(step, "texts"))),
         "string" => string(alloc, bytes_of(alloc, items(step, "bytes"))),
         _ => Err(Stop::Call),
     }
 }
 
-// What each text comes to, of those that are written to a writer with so many writes left, and the bytes that it has then.
+// The result of writing each text to a writer with this many writes left, and the bytes that it holds after them.
 fn slow(alloc: Global, left: u64, texts: &[JsonValue]) -> Result<String, AllocError> {
     let mut writer = Slow {
         taken: Vec::new(alloc),
@@ -38,7 +38,7 @@ fn write_all(writer: &mut Slow, texts: &[JsonValue], lines: &mut String) -> Resu
     Ok(())
 }
 
-// Whether a write was done, or its fault.
+// Appends whether a write succeeded, or its error.
 fn push_line(lines: &mut String, answer: io::Result<()>) -> Result<(), AllocError> {
     match answer {
         Ok(()) => lines.push_str("()\n"),
@@ -46,7 +46,7 @@ fn push_line(lines: &mut String, answer: io::Result<()>) -> Result<(), AllocErro
     }
 }
 
-// What a writer of strings has: the text of its bytes, where they are one.
+// What a writer of strings holds after these bytes: the text, if they are one.
 fn string(alloc: Global, bytes: Result<Vec<u8>, Stop>) -> Answer {
     match bytes {
         Ok(bytes) => written(StringWriter::new(alloc), bytes.as_slice()),

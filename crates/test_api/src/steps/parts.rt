@@ -1,31 +1,31 @@
-//! Calls that register helpers, decorators and escape functions, and take them away.
+//! Calls that register helpers, decorators and escape functions, and that unregister them.
 
-use crate::own::Own;
+use crate::script_parts::ScriptParts;
 use handlebars::{BuiltIn, DecoratorEntry, EscapeKind, HelperEntry, JsonValue, Registry};
-use handlebars_rows::helpers::helper_named;
 use std::alloc::Global;
+use test_cases::helpers::helper_named;
 use test_steps::answer::{Answer, Stop, done, shown};
 use test_steps::fields::text;
 
-/// What a call answers.
+/// Returns what a call answers.
 pub fn answer(
     alloc: Global,
     registry: &mut Registry,
-    own: &mut Own,
+    script_parts: &mut ScriptParts,
     call: &str,
     step: &JsonValue,
 ) -> Answer {
     let name = text(step, "name");
     match call {
-        "helper" => own_helper(alloc, registry, own, name),
+        "helper" => user_helper(alloc, registry, script_parts, name),
         "built_in" => built_in(
             alloc,
             registry,
             name,
             step.get("kind").and_then(helper_named),
         ),
-        "decorator" => decorator(alloc, registry, own, name, text(step, "part")),
-        "escape" => escape(alloc, registry, own, text(step, "part")),
+        "decorator" => decorator(alloc, registry, script_parts, name, text(step, "part")),
+        "escape" => escape(alloc, registry, script_parts, text(step, "part")),
         "unregister_helper" => {
             registry.unregister_helper(name);
             done(alloc)
@@ -38,8 +38,13 @@ pub fn answer(
     }
 }
 
-fn own_helper(alloc: Global, registry: &mut Registry, own: &mut Own, name: &str) -> Answer {
-    match own.next_helper() {
+fn user_helper(
+    alloc: Global,
+    registry: &mut Registry,
+    script_parts: &mut ScriptParts,
+    name: &str,
+) -> Answer {
+    match script_parts.next_helper() {
         Some(helper) => register(alloc, registry, name, HelperEntry::Own(helper)),
         None => Err(Stop::Field),
     }
@@ -59,13 +64,13 @@ fn register(alloc: Global, registry: &mut Registry, name: &str, helper: HelperEn
 fn decorator(
     alloc: Global,
     registry: &mut Registry,
-    own: &mut Own,
+    script_parts: &mut ScriptParts,
     name: &str,
     part: &str,
 ) -> Answer {
     match part {
         "inline" => decorate(alloc, registry, name, DecoratorEntry::Inline),
-        _ => match own.next_decorator() {
+        _ => match script_parts.next_decorator() {
             Some(decorator) => decorate(alloc, registry, name, DecoratorEntry::Own(decorator)),
             None => Err(Stop::Field),
         },
@@ -81,11 +86,16 @@ fn decorate(
     shown(alloc, registry.register_decorator(name, decorator))
 }
 
-fn escape(alloc: Global, registry: &mut Registry, own: &mut Own, part: &str) -> Answer {
+fn escape(
+    alloc: Global,
+    registry: &mut Registry,
+    script_parts: &mut ScriptParts,
+    part: &str,
+) -> Answer {
     match part {
         "html" => put_escape(alloc, registry, EscapeKind::Html),
         "plain" => put_escape(alloc, registry, EscapeKind::Plain),
-        _ => match own.next_escape() {
+        _ => match script_parts.next_escape() {
             Some(escape) => put_escape(alloc, registry, EscapeKind::Own(escape)),
             None => Err(Stop::Field),
         },

@@ -1,4 +1,4 @@
-//! Calls that tell an output of each piece.
+//! Calls that emit pieces to an output.
 
 use crate::state::Given;
 use handlebars::{JsonValue, NoFiles, RenderError};
@@ -6,10 +6,10 @@ use log::sink::Discard;
 use std::alloc::{AllocError, Global};
 use std::io::ErrorKind;
 use test_pieces::{HeldPiece, HeldPieces};
-use test_steps::answer::{Answer, Stop, done, kept, printed, shown};
+use test_steps::answer::{Answer, Stop, done, printed, shown, text_answer};
 use test_steps::fields::{number_at, text};
 
-/// What a call answers.
+/// Returns what a call answers.
 pub fn answer(given: Given<'_>, out: &mut HeldPieces, call: &str, step: &JsonValue) -> Answer {
     let Given {
         alloc,
@@ -32,17 +32,17 @@ pub fn answer(given: Given<'_>, out: &mut HeldPieces, call: &str, step: &JsonVal
                 registry.render_template_pieces(source, data, out, &Discard, &mut NoFiles),
             )
         }
-        "list" => kept(lines(alloc, &out.pieces)),
-        "text" => kept(out.text()),
-        "refused" => shown(alloc, out.refused),
+        "list" => text_answer(lines(alloc, &out.pieces)),
+        "text" => text_answer(out.text()),
+        "refused" => shown(alloc, out.failed),
         _ => Err(Stop::Call),
     }
 }
 
-// A new output that has room for so many pieces, or for all.
+// Creates a new output with a capacity of this many pieces, or of any number.
 fn room(alloc: Global, out: &mut HeldPieces, count: Option<u64>) -> Answer {
     *out = match count {
-        Some(count) => HeldPieces::with_room(alloc, count as usize, ErrorKind::BrokenPipe),
+        Some(count) => HeldPieces::with_capacity(alloc, count as usize, ErrorKind::BrokenPipe),
         None => HeldPieces::new(alloc),
     };
     done(alloc)
@@ -55,7 +55,7 @@ fn came(alloc: Global, answer: Result<(), RenderError>) -> Answer {
     }
 }
 
-// The pieces, a line each.
+// The pieces, one a line.
 fn lines(alloc: Global, pieces: &Vec<HeldPiece>) -> Result<String, AllocError> {
     let mut lines = String::new(alloc);
     for piece in pieces {

@@ -2,12 +2,12 @@
 
 use handlebars::{Context, JsonValue, RenderContext, RenderError, ScopedJson};
 use std::alloc::{AllocError, Global};
-use test_steps::answer::{Answer, Stop, done, refused, shown};
+use test_steps::answer::{Answer, Stop, done, failed, shown};
 use test_steps::fields::{flag, items, owned, text, text_at};
 use test_steps::held::{had, put};
 use test_steps::made::data::{context_of, copies};
 
-/// What a call answers.
+/// Returns what a call answers.
 pub fn answer(
     alloc: Global,
     data: &Context,
@@ -34,7 +34,7 @@ pub fn answer(
     }
 }
 
-// What is set, and read back.
+// Values that are set, and read back.
 fn toggle(alloc: Global, rc: &mut RenderContext, call: &str, step: &JsonValue) -> Answer {
     match call {
         "has_failed" => shown(alloc, rc.has_failed()),
@@ -49,7 +49,7 @@ fn toggle(alloc: Global, rc: &mut RenderContext, call: &str, step: &JsonValue) -
     }
 }
 
-// The name that a field is, if it is one.
+// The name in a field, if the field is a text.
 fn name_of(alloc: Global, step: &JsonValue, field: &str) -> Result<Option<String>, Stop> {
     match text_at(step, field) {
         Some(_) => had(owned(alloc, step, field).map(Some)),
@@ -57,7 +57,7 @@ fn name_of(alloc: Global, step: &JsonValue, field: &str) -> Result<Option<String
     }
 }
 
-// A new render context, whose root template has the name `name`, if there is one.
+// Creates a new render context. Its root template has the name `name`, if there is one.
 fn new(alloc: Global, rc: &mut RenderContext, step: &JsonValue) -> Answer {
     match name_of(alloc, step, "name") {
         Ok(name) => renew(alloc, rc, RenderContext::new(alloc, name.as_ref())),
@@ -76,11 +76,11 @@ fn renew(alloc: Global, rc: &mut RenderContext, new: Result<RenderContext, Alloc
 fn evaluated(alloc: Global, answer: Result<ScopedJson<'_>, RenderError>) -> Answer {
     match answer {
         Ok(value) => shown(alloc, value.as_json()),
-        Err(error) => refused::<()>(alloc, Err(error)),
+        Err(error) => failed::<()>(alloc, Err(error)),
     }
 }
 
-// Binds a name to what is registered under another one, with constants before the parameters.
+// Binds a name to the helper that is registered under another one, with constants before the parameters.
 fn bind(
     alloc: Global,
     rc: &mut RenderContext,
@@ -94,7 +94,7 @@ fn bind(
     }
 }
 
-// What the local helper of a name is registered under, and how many constants it has.
+// The name that the local helper is registered under, and how many constants it has.
 fn local_helper(alloc: Global, rc: &RenderContext, name: &str) -> Answer {
     match rc.get_local_helper(name) {
         Some(local) => shown(alloc, (local.registered.as_str(), local.constants.len())),
@@ -112,7 +112,7 @@ fn set_context(alloc: Global, rc: &mut RenderContext, data: Result<Context, Stop
     }
 }
 
-// The current template has this name, or none.
+// Sets or removes the name of the current template.
 fn set_name(alloc: Global, rc: &mut RenderContext, name: Result<Option<String>, Stop>) -> Answer {
     match name {
         Ok(name) => {
@@ -123,7 +123,7 @@ fn set_name(alloc: Global, rc: &mut RenderContext, name: Result<Option<String>, 
     }
 }
 
-// How many members were looked up since this was asked last.
+// How many members were looked up since this was last asked.
 fn looked_up_since(alloc: Global, rc: &RenderContext, before: &mut u64) -> Answer {
     let now = rc.looked_up();
     let found = now.saturating_sub(*before);

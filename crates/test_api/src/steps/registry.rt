@@ -1,4 +1,4 @@
-//! Calls of a registry, but for those that register parts.
+//! Calls of a registry, except for those that register parts.
 
 use handlebars::{JsonValue, Registry, Template};
 use std::alloc::Global;
@@ -7,7 +7,7 @@ use test_steps::fields::{flag, number, text};
 use test_steps::held::Held;
 use test_steps::made::tree::tree_of;
 
-/// What a call answers.
+/// Returns what a call answers.
 pub fn answer(alloc: Global, registry: &mut Registry, call: &str, step: &JsonValue) -> Answer {
     let (name, source) = (text(step, "name"), text(step, "source"));
     match call {
@@ -50,7 +50,7 @@ fn limit(alloc: Global, registry: &mut Registry, limit: u64) -> Answer {
     }
 }
 
-// Sets a mode, which is on or off.
+// Turns a mode on or off.
 fn mode(alloc: Global, registry: &mut Registry, call: &str, on: bool) -> Answer {
     match call {
         "strict_mode" => registry.set_strict_mode(on),
@@ -61,7 +61,7 @@ fn mode(alloc: Global, registry: &mut Registry, call: &str, on: bool) -> Answer 
     done(alloc)
 }
 
-// Whether it is strict, in dev mode, and without indentation, and how many inclusions nest.
+// Whether the registry is strict, in dev mode, and without indentation, and how deeply partials may nest.
 fn settings(alloc: Global, registry: &Registry) -> Answer {
     let modes = (registry.strict_mode(), registry.dev_mode());
     shown(

@@ -20,7 +20,7 @@ use test_steps::made::tree::{compiled, tree_of};
 use test_steps::made::view::decorator_of;
 use test_steps::value::expanded;
 
-/// What a call answers.
+/// Returns what a call answers.
 pub fn answer(
     given: Given<'_>,
     rc: &mut RenderContext,
@@ -63,14 +63,14 @@ fn of_registry(given: Given<'_>, call: &str, step: &JsonValue) -> Answer {
     }
 }
 
-// What the registry answers to a source over the data.
+// What the registry returns for a source over the data.
 fn of_source(given: Given<'_>, source: &str) -> Result<String, RenderError> {
     given
         .registry
         .render_template_with_context(source, given.data, &Discard, &mut NoFiles)
 }
 
-// The texts of a source over the data and over other ones, if its markup is fixed.
+// The texts of a source over the data and over other data, if its markup is fixed.
 fn alike(given: Given<'_>, source: &str, other: Result<Context, Stop>) -> Answer {
     match other {
         Ok(other) => shown(
@@ -83,7 +83,7 @@ fn alike(given: Given<'_>, source: &str, other: Result<Context, Stop>) -> Answer
 
 // ---- in the render context
 
-/// The text of a tree or of an element in the render context, or its refusal.
+/// Renders a tree or an element in the render context, and prints the text or the error.
 pub fn text_of<T: Renderable>(given: Given<'_>, rc: &mut RenderContext, rendered: &T) -> Answer {
     let Given {
         alloc,
@@ -100,7 +100,7 @@ fn texts(given: Given<'_>, rc: &mut RenderContext, tree: Result<Held<Template>, 
     }
 }
 
-// What writing a tree into the output answers.
+// The result of writing a tree to the output.
 fn writes(
     given: Given<'_>,
     rc: &mut RenderContext,
@@ -121,7 +121,7 @@ fn writes(
     }
 }
 
-// What a partial of the render context renders, with a registry, data and a context of its own.
+// Renders a partial of the render context, with its own registry, data and render context.
 fn partial(alloc: Global, rc: &RenderContext, name: &str) -> Answer {
     match rc.get_partial(name) {
         Some(partial) => rendered_alone(alloc, Registry::new(alloc), partial),
@@ -156,7 +156,7 @@ fn rendered_in(
     }
 }
 
-// What including by a view, with the block of the source `block`, answers and writes.
+// The result and the output of including by a view, with the block of the source `block`.
 fn include(given: Given<'_>, rc: &mut RenderContext, step: &JsonValue) -> Answer {
     match text_at(step, "block") {
         Some(source) => include_with(given, rc, step, compiled(given.alloc, source)),
@@ -198,7 +198,7 @@ fn included(given: Given<'_>, rc: &mut RenderContext, view: &Decorator<'_>) -> A
     shown(alloc, (answer, out.into_string()))
 }
 
-// What a parameter comes to, or what its error says.
+// The expanded parameter, or the parts of the error.
 fn expand(given: Given<'_>, rc: &mut RenderContext, parameter: Result<Parameter, Stop>) -> Answer {
     let Given {
         alloc,
@@ -211,7 +211,7 @@ fn expand(given: Given<'_>, rc: &mut RenderContext, parameter: Result<Parameter,
     }
 }
 
-// The name that a parameter comes to, or what its error says.
+// The name that a parameter expands to, or the parts of the error.
 fn expand_as_name(
     given: Given<'_>,
     rc: &mut RenderContext,

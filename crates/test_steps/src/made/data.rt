@@ -7,7 +7,7 @@ use handlebars_scope::context::Context;
 use serde_json::Value as JsonValue;
 use std::alloc::{AllocError, Global};
 
-/// The context of a field.
+/// Returns the context of a field.
 pub fn context_of(it: &JsonValue, name: &str) -> Result<Context, Stop> {
     match copied(it, name) {
         Ok(given) => taken(Context::try_from(given)),
@@ -15,7 +15,7 @@ pub fn context_of(it: &JsonValue, name: &str) -> Result<Context, Stop> {
     }
 }
 
-/// Copies of the values of an array.
+/// Returns copies of the values of an array.
 pub fn copies(alloc: Global, values: &[JsonValue]) -> Result<Vec<JsonValue>, Stop> {
     let mut all = Vec::new(alloc);
     let made = push_copies(&mut all, values);
@@ -29,7 +29,7 @@ fn push_copies(all: &mut Vec<JsonValue>, values: &[JsonValue]) -> Result<(), Sto
     Ok(())
 }
 
-/// The bytes of an array.
+/// Returns the bytes of an array.
 pub fn bytes_of(alloc: Global, numbers: &[JsonValue]) -> Result<Vec<u8>, Stop> {
     let mut bytes = Vec::new(alloc);
     let made = push_bytes(&mut bytes, numbers);

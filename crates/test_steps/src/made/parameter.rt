@@ -1,4 +1,4 @@
-//! Parameters, and what a tag says.
+//! Parameters and expressions.
 
 use crate::answer::Stop;
 use crate::fields::{flag, items, owned, text};
@@ -9,15 +9,15 @@ use serde_json::Value as JsonValue;
 use std::alloc::{AllocError, Global};
 use std::collections::BTreeMap;
 
-/// A parameter: of a text the one that it is read as, and else a name, a path or a literal by hand.
+/// Returns a parameter: a text is parsed; anything else describes a name, a path or a literal.
 pub fn parameter_of(alloc: Global, it: &JsonValue) -> Result<Parameter, Stop> {
     match it.as_str() {
         Some(text) => taken(Parameter::parse(alloc, text)),
-        None => parameter_by_hand(alloc, it),
+        None => hand_built_parameter(alloc, it),
     }
 }
 
-/// The parameter of a field.
+/// Returns the parameter of a field.
 pub fn parameter_at(alloc: Global, it: &JsonValue, name: &str) -> Result<Parameter, Stop> {
     match it.get(name) {
         Some(parameter) => parameter_of(alloc, parameter),
@@ -25,7 +25,7 @@ pub fn parameter_at(alloc: Global, it: &JsonValue, name: &str) -> Result<Paramet
     }
 }
 
-fn parameter_by_hand(alloc: Global, it: &JsonValue) -> Result<Parameter, Stop> {
+fn hand_built_parameter(alloc: Global, it: &JsonValue) -> Result<Parameter, Stop> {
     if let Some(literal) = it.get("literal") {
         return had(literal.clone().map(Parameter::Literal));
     }
@@ -35,7 +35,7 @@ fn parameter_by_hand(alloc: Global, it: &JsonValue) -> Result<Parameter, Stop> {
     }
 }
 
-/// The parameters of an array.
+/// Returns the parameters of an array.
 pub fn parameters_of(alloc: Global, all: &[JsonValue]) -> Result<Vec<Parameter>, Stop> {
     let mut parameters = Vec::new(alloc);
     let made = push_parameters(alloc, &mut parameters, all);
@@ -53,49 +53,49 @@ fn push_parameters(
     Ok(())
 }
 
-/// The pairs of the field `hash`.
-pub fn pairs_of(alloc: Global, it: &JsonValue) -> Result<BTreeMap<String, Parameter>, Stop> {
-    let mut pairs = BTreeMap::new(alloc);
-    let made = put_pairs(alloc, &mut pairs, it);
-    if_made(pairs, made)
+/// Returns the hash arguments of the field `hash`.
+pub fn hash_of(alloc: Global, it: &JsonValue) -> Result<BTreeMap<String, Parameter>, Stop> {
+    let mut hash = BTreeMap::new(alloc);
+    let made = put_hash(alloc, &mut hash, it);
+    if_made(hash, made)
 }
 
-fn put_pairs(
+fn put_hash(
     alloc: Global,
-    pairs: &mut BTreeMap<String, Parameter>,
+    hash: &mut BTreeMap<String, Parameter>,
     it: &JsonValue,
 ) -> Result<(), Stop> {
     if let Some(members) = it.get("hash").and_then(JsonValue::as_object) {
         for (key, value) in members.iter() {
-            put_pair(pairs, key.clone(), parameter_of(alloc, value))?;
+            put_hash_pair(hash, key.clone(), parameter_of(alloc, value))?;
         }
     }
     Ok(())
 }
 
-fn put_pair(
-    pairs: &mut BTreeMap<String, Parameter>,
+fn put_hash_pair(
+    hash: &mut BTreeMap<String, Parameter>,
     key: Result<String, AllocError>,
     value: Result<Parameter, Stop>,
 ) -> Result<(), Stop> {
     match key {
-        Ok(key) => put_value(pairs, key, value),
+        Ok(key) => put_value(hash, key, value),
         Err(AllocError) => Err(Stop::OutOfMemory),
     }
 }
 
 fn put_value(
-    pairs: &mut BTreeMap<String, Parameter>,
+    hash: &mut BTreeMap<String, Parameter>,
     key: String,
     value: Result<Parameter, Stop>,
 ) -> Result<(), Stop> {
     match value {
-        Ok(value) => had(pairs.insert(key, value)).map(let_go),
+        Ok(value) => had(hash.insert(key, value)).map(let_go),
         Err(stop) => Err(stop),
     }
 }
 
-/// What a tag says: its `name`, `params`, `hash` and names to `bind`.
+/// Returns an expression: its `name`, `params`, `hash` and the names to `bind`.
 pub fn spec_of(alloc: Global, it: &JsonValue) -> Result<ExpressionSpec, Stop> {
     let mut spec = ExpressionSpec {
         name: Parameter::Literal(JsonValue::Null),
@@ -112,7 +112,7 @@ pub fn spec_of(alloc: Global, it: &JsonValue) -> Result<ExpressionSpec, Stop> {
 fn fill_spec(alloc: Global, spec: &mut ExpressionSpec, it: &JsonValue) -> Result<(), Stop> {
     put(&mut spec.name, parameter_at(alloc, it, "name"))?;
     push_parameters(alloc, &mut spec.params, items(it, "params"))?;
-    put_pairs(alloc, &mut spec.hash, it)?;
+    put_hash(alloc, &mut spec.hash, it)?;
     put(&mut spec.block_param, binding_of(alloc, items(it, "bind")))
 }
 

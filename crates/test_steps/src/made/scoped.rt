@@ -1,4 +1,4 @@
-//! Values with where they came from.
+//! Values with their origins.
 
 use crate::answer::Stop;
 use crate::fields::{copied, items, owned, owned_all};
@@ -6,7 +6,8 @@ use handlebars_base::json::value::{PathAndJson, ScopedJson};
 use serde_json::Value as JsonValue;
 use std::alloc::{AllocError, Global};
 
-/// A `constant` of the template, a value that is `derived`, one that is `found` in the data `at` a path, or none.
+/// Returns a `constant` of the template, a value that is `derived`, one that is `found` in the data `at` a path, or a missing
+/// one.
 pub fn scoped_of<'s>(alloc: Global, it: &'s JsonValue) -> Result<ScopedJson<'s>, Stop> {
     if let Some(value) = it.get("constant") {
         return Ok(ScopedJson::Constant(value));
@@ -35,7 +36,7 @@ fn found_at<'s>(
     }
 }
 
-/// Such a value with its path as written, the field `path`, if it has one.
+/// Returns such a value with its path as written, which is the field `path`, if there is one.
 pub fn given_of<'s>(alloc: Global, it: &'s JsonValue) -> Result<PathAndJson<'s>, Stop> {
     match it.get("path") {
         Some(_) => written_as(owned(alloc, it, "path"), scoped_of(alloc, it)),

@@ -10,7 +10,7 @@ use handlebars_template::template::{
 use serde_json::Value as JsonValue;
 use std::alloc::{AllocError, Global};
 
-/// The tree of a source.
+/// Compiles a source.
 pub fn compiled(alloc: Global, source: &str) -> Result<Held<Template>, Stop> {
     match taken(Template::compile(alloc, source)) {
         Ok(value) => Ok(Held { value }),
@@ -18,7 +18,7 @@ pub fn compiled(alloc: Global, source: &str) -> Result<Held<Template>, Stop> {
     }
 }
 
-/// The tree of the field `source`, or the one of `tree`, by hand.
+/// Returns the tree of the field `source`, or the hand-built one of the field `tree`.
 pub fn tree_of(alloc: Global, step: &JsonValue) -> Result<Held<Template>, Stop> {
     let mut tree = Held {
         value: Template::new(alloc),
@@ -29,12 +29,12 @@ pub fn tree_of(alloc: Global, step: &JsonValue) -> Result<Held<Template>, Stop> 
 
 fn fill_tree(alloc: Global, tree: &mut Template, step: &JsonValue) -> Result<(), Stop> {
     match step.get("tree") {
-        Some(by_hand) => fill_by_hand(alloc, tree, by_hand),
+        Some(hand_built) => fill_hand_built(alloc, tree, hand_built),
         None => fill_by_source(alloc, tree, step),
     }
 }
 
-// The inclusion that is its first element has the indentation of `indent`, if there is one.
+// If there is a field `indent`, it is the indentation of the partial call that is the first element.
 fn fill_by_source(alloc: Global, tree: &mut Template, step: &JsonValue) -> Result<(), Stop> {
     put(tree, taken(Template::compile(alloc, text(step, "source"))))?;
     match step.get("indent") {
@@ -55,7 +55,7 @@ fn put_indent(
     }
 }
 
-fn fill_by_hand(alloc: Global, tree: &mut Template, it: &JsonValue) -> Result<(), Stop> {
+fn fill_hand_built(alloc: Global, tree: &mut Template, it: &JsonValue) -> Result<(), Stop> {
     push_elements(alloc, &mut tree.elements, items(it, "elements"))?;
     push_mapping(&mut tree.mapping, items(it, "mapping"))?;
     match it.get("name") {
@@ -76,15 +76,15 @@ fn push_elements(
 }
 
 fn push_mapping(mapping: &mut Vec<TemplateMapping>, all: &[JsonValue]) -> Result<(), Stop> {
-    for place in all {
-        push(mapping, place_of(place))?;
+    for position in all {
+        push(mapping, position_of(position))?;
     }
     Ok(())
 }
 
 // A line and a column.
-fn place_of(place: &JsonValue) -> Result<TemplateMapping, Stop> {
-    match place.as_array().map(Vec::as_slice) {
+fn position_of(position: &JsonValue) -> Result<TemplateMapping, Stop> {
+    match position.as_array().map(Vec::as_slice) {
         Some([line, column]) => Ok(TemplateMapping(index_of(line), index_of(column))),
         _ => Err(Stop::Field),
     }
@@ -94,7 +94,7 @@ fn index_of(number: &JsonValue) -> usize {
     number.as_u64().unwrap_or(0) as usize
 }
 
-/// A tree of one element by hand, the one of the field `element`.
+/// Returns a hand-built tree of one element, which is that of the field `element`.
 pub fn tree_around(alloc: Global, step: &JsonValue) -> Result<Held<Template>, Stop> {
     let mut tree = Held {
         value: Template::new(alloc),
@@ -103,7 +103,7 @@ pub fn tree_around(alloc: Global, step: &JsonValue) -> Result<Held<Template>, St
     if_made(tree, made)
 }
 
-/// The element of the field `element`.
+/// Returns the element of the field `element`.
 pub fn element_at(alloc: Global, step: &JsonValue) -> Result<TemplateElement, Stop> {
     match step.get("element") {
         Some(element) => element_of(alloc, element),
@@ -111,7 +111,7 @@ pub fn element_at(alloc: Global, step: &JsonValue) -> Result<TemplateElement, St
     }
 }
 
-// An element by hand, of a `kind`.
+// A hand-built element of this `kind`.
 fn element_of(alloc: Global, it: &JsonValue) -> Result<TemplateElement, Stop> {
     match text(it, "kind") {
         "comment" => had(owned(alloc, it, "text").map(TemplateElement::Comment)),
@@ -126,7 +126,7 @@ fn element_of(alloc: Global, it: &JsonValue) -> Result<TemplateElement, Stop> {
     }
 }
 
-// A call, whose field `is_block` says whether it is a block, with the body of the source `body`.
+// A call. Its field `is_block` says whether it is a block, and its body is compiled from the source `body`.
 fn call_of(alloc: Global, it: &JsonValue) -> Result<Box<HelperTemplate>, Stop> {
     let call = boxed(alloc, bare_call(spec_of(alloc, it), flag(it, "is_block")));
     match text_at(it, "body") {

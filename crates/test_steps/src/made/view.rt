@@ -1,4 +1,4 @@
-//! What a call or a tag shows.
+//! The views of calls and of tags.
 
 use crate::answer::Stop;
 use crate::fields::{items, text, text_at};
@@ -13,7 +13,7 @@ use std::alloc::Global;
 use std::borrow::CowStr;
 use std::collections::BTreeMap;
 
-/// What a tag shows: its `name`, `params`, `hash` and `indent`, and this block.
+/// Returns the view of a tag: its `name`, `params`, `hash` and `indent`, and this block.
 pub fn decorator_of<'s>(
     alloc: Global,
     it: &'s JsonValue,
@@ -24,19 +24,19 @@ pub fn decorator_of<'s>(
         Some(indent) => Some(CowStr::Borrowed(indent)),
         None => None,
     };
-    let (mut params, mut pairs) = (Vec::new(alloc), BTreeMap::new(alloc));
-    match put_given(alloc, &mut params, &mut pairs, it) {
-        Ok(()) => Ok(Decorator::new(name, params, pairs, block, indent)),
+    let (mut params, mut hash) = (Vec::new(alloc), BTreeMap::new(alloc));
+    match put_given(alloc, &mut params, &mut hash, it) {
+        Ok(()) => Ok(Decorator::new(name, params, hash, block, indent)),
         Err(stop) => Err(stop),
     }
 }
 
-/// What a call shows: its `name`, `params` and `hash`.
+/// Returns the view of a call: its `name`, `params` and `hash`.
 pub fn helper_of<'s>(alloc: Global, it: &'s JsonValue) -> Result<Helper<'s>, Stop> {
     let name = CowStr::Borrowed(text(it, "name"));
-    let (mut params, mut pairs) = (Vec::new(alloc), BTreeMap::new(alloc));
-    match put_given(alloc, &mut params, &mut pairs, it) {
-        Ok(()) => Ok(Helper::new(name, params, pairs, None, None, None, false)),
+    let (mut params, mut hash) = (Vec::new(alloc), BTreeMap::new(alloc));
+    match put_given(alloc, &mut params, &mut hash, it) {
+        Ok(()) => Ok(Helper::new(name, params, hash, None, None, None, false)),
         Err(stop) => Err(stop),
     }
 }
@@ -44,35 +44,35 @@ pub fn helper_of<'s>(alloc: Global, it: &'s JsonValue) -> Result<Helper<'s>, Sto
 fn put_given<'s>(
     alloc: Global,
     params: &mut Vec<PathAndJson<'s>>,
-    pairs: &mut BTreeMap<&'s str, PathAndJson<'s>>,
+    hash: &mut BTreeMap<&'s str, PathAndJson<'s>>,
     it: &'s JsonValue,
 ) -> Result<(), Stop> {
     for param in items(it, "params") {
         push(params, given_of(alloc, param))?;
     }
-    put_pairs(alloc, pairs, it)
+    put_hash(alloc, hash, it)
 }
 
-fn put_pairs<'s>(
+fn put_hash<'s>(
     alloc: Global,
-    pairs: &mut BTreeMap<&'s str, PathAndJson<'s>>,
+    hash: &mut BTreeMap<&'s str, PathAndJson<'s>>,
     it: &'s JsonValue,
 ) -> Result<(), Stop> {
     if let Some(members) = it.get("hash").and_then(JsonValue::as_object) {
         for (key, value) in members.iter() {
-            put_pair(pairs, key.as_str(), given_of(alloc, value))?;
+            put_hash_pair(hash, key.as_str(), given_of(alloc, value))?;
         }
     }
     Ok(())
 }
 
-fn put_pair<'s>(
-    pairs: &mut BTreeMap<&'s str, PathAndJson<'s>>,
+fn put_hash_pair<'s>(
+    hash: &mut BTreeMap<&'s str, PathAndJson<'s>>,
     key: &'s str,
     value: Result<PathAndJson<'s>, Stop>,
 ) -> Result<(), Stop> {
     match value {
-        Ok(value) => had(pairs.insert(key, value)).map(let_go),
+        Ok(value) => had(hash.insert(key, value)).map(let_go),
         Err(stop) => Err(stop),
     }
 }

@@ -6,12 +6,12 @@ use Rattle.handlebars.proofs.laws.calls_agree.Goals as goal
 
 pub returns-clause-names : goal.returns-clause-names
 returns-clause-names g c = λ name d read.
-    let over = setting_under g.E.OwnParts.registered g.E.OwnParts.own read c.args.registry.now d in
+    let over = setting_under g.E.UserParts.registered g.E.UserParts.user read c.args.registry.now d in
     agreement.calls_agree over _ (has_one_answer over
-    (over-lawful g.E.OwnParts.registered g.E.OwnParts.own c.args.registry.now d read c.keeps_law.ensures) _ (FromName-one _ name))
+    (over-lawful g.E.UserParts.registered g.E.UserParts.user c.args.registry.now d read c.satisfies_law.ensures) _ (FromName-one _ name))
 
 pub returns-clause-sources : goal.returns-clause-sources
 returns-clause-sources g c = λ source d read.
-    let over = setting_under g.E.OwnParts.registered g.E.OwnParts.own read c.args.registry.now d in
+    let over = setting_under g.E.UserParts.registered g.E.UserParts.user read c.args.registry.now d in
     agreement.calls_agree over _ (has_one_answer over
-    (over-lawful g.E.OwnParts.registered g.E.OwnParts.own c.args.registry.now d read c.keeps_law.ensures) _ (FromSource-one _ source))
+    (over-lawful g.E.UserParts.registered g.E.UserParts.user c.args.registry.now d read c.satisfies_law.ensures) _ (FromSource-one _ source))

@@ -5,13 +5,13 @@ use Rattle.handlebars_laws.proofs.RunOrigins.{all_have_origins, comes_in_trees, 
 use Rattle.handlebars_laws.proofs.OtherTemplates.{only_named_count, same_under_larger}
 use Rattle.handlebars_laws.proofs.Sections.{runs_stay}
 use Rattle.handlebars.specs.View.{setting_of}
-use Rattle.handlebars.proofs.OwnLaws.{parts-lawful}
+use Rattle.handlebars.proofs.UserLaws.{parts-lawful}
 use Rattle.handlebars.proofs.laws.laws_of_runs.Goals as goal
 
 pub returns : goal.returns
 returns g c =
-    let p = setting_of g.E.OwnParts.registered g.E.OwnParts.own c.args.registry.now c.args.context.now in
-    let lawful = parts-lawful g.E.OwnParts.registered g.E.OwnParts.own c.args.registry.now c.keeps_law.ensures in
+    let p = setting_of g.E.UserParts.registered g.E.UserParts.user c.args.registry.now c.args.context.now in
+    let lawful = parts-lawful g.E.UserParts.registered g.E.UserParts.user c.args.registry.now c.satisfies_law.ensures in
     record {
       one = λ k s ps qs o q a b h g. Runs-one lawful a b h g;
       beginning = λ k s ps qs o q a b h g. Runs-beginning lawful a b h g;

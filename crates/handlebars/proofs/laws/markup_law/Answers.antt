@@ -7,13 +7,13 @@ use Rattle.handlebars.proofs.laws.markup_law.Goals as goal
 pub returns : goal.returns
 returns g c = record {
   names = λ r read d name. name-data_is_no_markup c.escape_laws.ensures.unmarked c.escape_laws.ensures.entities
-      (setting_under g.E.OwnParts.registered g.E.OwnParts.own read r d) name;
+      (setting_under g.E.UserParts.registered g.E.UserParts.user read r d) name;
   sources = λ r read d source.
       source-data_is_no_markup c.escape_laws.ensures.unmarked c.escape_laws.ensures.entities
-      (setting_under g.E.OwnParts.registered g.E.OwnParts.own read r d) (options_of r) source;
+      (setting_under g.E.UserParts.registered g.E.UserParts.user read r d) (options_of r) source;
   named_indents = λ r read d name.
-      name-indents_are_blank (setting_under g.E.OwnParts.registered g.E.OwnParts.own read r d) name;
+      name-indents_are_blank (setting_under g.E.UserParts.registered g.E.UserParts.user read r d) name;
   source_indents = λ r read d source.
-      source-indents_are_blank (setting_under g.E.OwnParts.registered g.E.OwnParts.own read r d) (options_of r) source;
+      source-indents_are_blank (setting_under g.E.UserParts.registered g.E.UserParts.user read r d) (options_of r) source;
   compiled = compiles_so;
 }

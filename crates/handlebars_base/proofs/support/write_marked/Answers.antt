@@ -1,16 +1,16 @@
 use Rattle.std.proofs.Common.{◌+◌, ◌++◌, ap, arith}
 use Rattle.std.proofs.lemmas.Str.{IsCharBoundary-start}
 use Rattle.handlebars_base.specs.Escape.{escaped}
-use Rattle.handlebars_base.proofs.EscapedRuns.{left_at, left_at-front, left_at-plain, left_at-entity, left_at-end, boundary-entity}
-use Rattle.handlebars_base.proofs.Writes.{AllBut, begins, left_is, goes_on, gathers, fails, ends}
-use Rattle.handlebars_base.proofs.support.write_marked.Goals.{in-Some, in_default, then-remaining_capacity-run+in_ok-write_behind, else-remaining_capacity-run}
+use Rattle.handlebars_base.proofs.EscapedRuns.{left_at, left_at-prefix, left_at-plain, left_at-entity, left_at-end, boundary-entity}
+use Rattle.handlebars_base.proofs.Writes.{AllBut, begins, left_is, next_write, gathers, failed_write, last_write}
+use Rattle.handlebars_base.proofs.support.write_marked.Goals.{in-Some, in_default, then-remaining_capacity-run+in_ok-write_after, else-remaining_capacity-run}
 use Rattle.handlebars_base.proofs.support.write_marked.Goals as goal
 
 pub loop-at-init : goal.loop-at-init
 loop-at-init g c = record {
   within = omega arith;
   boundary = IsCharBoundary-start c.args.text.now c.utf8.text;
-  left = rw c.new-piece.ensures (left_is (left_at-front _ _ c.requires) (begins _ _));
+  left = rw c.new-piece.ensures (left_is (left_at-prefix _ _ c.requires) (begins _ _));
 }
 
 pub loop-at-preserved : goal.loop-at-preserved
@@ -25,8 +25,8 @@ loop-at-preserved g c =
           let both : AllBut (w.if-remaining_capacity-run.piece.bytes ++ (w.in-Some.entity.now ++ left_at c.args.text.now (l.at + 1) (l.at + 1)))
           (escaped c.args.text.now) (g.O.Output.held c.args.out.now) (g.O.Output.held w.if-remaining_capacity-run.out) =
           elim w.if-remaining_capacity-run.branch [
-            | then-remaining_capacity-run+in_ok-write_behind v ↦
-                rw (v.out-is, v.piece-is, v.in_ok-write_behind.ensures.empty) (goes_on run v.in_ok-write_behind.ensures.written)
+            | then-remaining_capacity-run+in_ok-write_after v ↦
+                rw (v.out-is, v.piece-is, v.in_ok-write_after.ensures.empty) (next_write run v.in_ok-write_after.ensures.written)
             | else-remaining_capacity-run v ↦ rw (v.out-is, v.piece-is, v.push_str.ensures.bytes) run
           ] in
           rw (w.written-is, w.out-is, w.piece-is, w.push_str-in-Some.ensures.bytes) record {
@@ -42,15 +42,15 @@ loop-at-preserved g c =
           }
     ]
 
-pub returns-in_err-write_behind-clause-written : goal.returns-in_err-write_behind-clause-written
-returns-in_err-write_behind-clause-written g c =
+pub returns-in_err-write_after-clause-written : goal.returns-in_err-write_after-clause-written
+returns-in_err-write_after-clause-written g c =
     let l = c.loop-at in
     let here = left_at-entity _ _ _ _ l.written l.at c.as_bytes-bytes.ensures.value c.range-run.ensures.value c.loop-at-test.true c.in-Some.ensures.is in
     let run = gathers l.piece.bytes _ _ (left_is (ap (λ t. l.piece.bytes ++ t) here) l.invariant.left) in
-    fails _ _ c.from_residual.ensures.0 run c.in_err-write_behind.ensures.written
+    failed_write _ _ c.from_residual.ensures.0 run c.in_err-write_after.ensures.written
 
 pub returns-clause-written : goal.returns-clause-written
 returns-clause-written g c =
     let l = c.loop-at in
     let at_end = left_at-end _ _ _ l.written l.at c.as_bytes-bytes.ensures.value c.range_from.ensures.value c.loop-at-test.false in
-    ends _ _ (left_is (ap (λ t. l.piece.bytes ++ t) at_end) l.invariant.left) c.write_behind-2.ensures.written
+    last_write _ _ (left_is (ap (λ t. l.piece.bytes ++ t) at_end) l.invariant.left) c.write_after-2.ensures.written

@@ -6,11 +6,11 @@ ghost use Rattle.handlebars_base.specs.Path.{is_dots, part_segments, link_segmen
 ghost use Rattle.handlebars_base.specs.PathView.{segments_of, part_of, found_at};
 ghost use Rattle.handlebars_base.specs.PathReading.{part_at, bracketed_at, plain_at, link_at, part_of_link, links_of};
 
-use super::marks::{behind_byte, symbols};
+use super::marks::{after_byte, symbols};
 use super::{PathRule, PathSeg};
 use std::alloc::{AllocError, Global};
 
-/// One part of a path, as it stands in the text.
+/// One part of a path, as it is written in the text.
 #[derive(Clone, Copy)]
 pub enum PathPart<'a> {
     Up,
@@ -27,7 +27,7 @@ pub fn is_up(part: PathPart) -> bool
     }
 }
 
-/// A name in brackets, behind the opening one.
+/// Reads a name in brackets, after the opening bracket.
 #[tactic(auto, unfolding(crate::specs::PathReading::bracketed_at))]
 fn bracketed_at(text: &str) -> Option<(PathPart<'_>, &str)>
     ensures { option_map found_at result ≡ bracketed_at text.now }
@@ -47,45 +47,45 @@ fn plain_at(text: &str) -> Option<(PathPart<'_>, &str)>
     Some((PathPart::Plain(name), rest))
 }
 
-/// The part at the front, and what follows it.
+/// Reads the part at the start. Returns it with what follows it.
 #[tactic(auto, unfolding(crate::specs::PathReading::part_at))]
 pub fn part_at(text: &str) -> Option<(PathPart<'_>, &str)>
     ensures { option_map found_at result ≡ part_at text.now }
 {
-    if let Some(rest) = behind_byte(b'.', text) {
-        let rest = behind_byte(b'.', rest)?;
+    if let Some(rest) = after_byte(b'.', text) {
+        let rest = after_byte(b'.', rest)?;
         return Some((PathPart::Up, rest));
     }
-    if let Some(rest) = behind_byte(b'[', text) {
+    if let Some(rest) = after_byte(b'[', text) {
         return bracketed_at(rest);
     }
     plain_at(text)
 }
 
-/// The part behind a separator. A dot doesn't join `..` to anything.
+/// Reads the part after a separator. A dot doesn't join `..` to anything.
 #[tactic(auto, unfolding(crate::specs::PathReading::link_at))]
 fn link_at(before_up: bool, text: &str) -> Option<(PathPart<'_>, &str)>
     ensures { option_map found_at result ≡ option_map part_of_link (link_at before_up text.now) }
 {
-    if let Some(rest) = behind_byte(b'/', text) {
+    if let Some(rest) = after_byte(b'/', text) {
         return part_at(rest);
     }
-    let (found, rest) = part_at(behind_byte(b'.', text)?)?;
+    let (found, rest) = part_at(after_byte(b'.', text)?)?;
     if before_up || is_up(found) {
         return None;
     }
     Some((found, rest))
 }
 
-/// What follows the links, as long as they fit.
-pub fn behind_links(up: bool, text: &str) -> &str
+/// Returns what follows the links, reading as many as fit.
+pub fn after_links(up: bool, text: &str) -> &str
     ensures { result.now ≡ (links_of up text.now).1 }
 {
     let mut before_up = up;
     let mut rest = text;
-    while let Some((found, behind)) = link_at(before_up, rest) {
+    while let Some((found, after)) = link_at(before_up, rest) {
         before_up = is_up(found);
-        rest = behind;
+        rest = after;
     }
     rest
 }
@@ -106,7 +106,7 @@ pub fn push(alloc: Global, segs: &mut Vec<PathSeg>, part: PathPart) -> Result<()
     Ok(())
 }
 
-/// Adds the segments of the links, as long as they fit: what follows these.
+/// Adds the segments of as many links as fit. Returns what follows them.
 pub fn push_links<'a>(
     alloc: Global,
     segs: &mut Vec<PathSeg>,
@@ -119,10 +119,10 @@ pub fn push_links<'a>(
 {
     let mut before_up = up;
     let mut rest = text;
-    while let Some((found, behind)) = link_at(before_up, rest) {
+    while let Some((found, after)) = link_at(before_up, rest) {
         push(alloc, segs, found)?;
         before_up = is_up(found);
-        rest = behind;
+        rest = after;
     }
     Ok(rest)
 }

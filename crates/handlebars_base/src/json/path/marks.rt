@@ -1,13 +1,13 @@
-//! Symbols, white and single marks at the front of a text.
+//! Symbols, white space and single marks at the start of a text.
 
 ghost use Rattle.std.specs.Prelude.{◌≡◌, ◌<◌};
 ghost use Rattle.std.specs.List.{list_all, prefix_len};
 ghost use Rattle.std.specs.Option.{option_map};
-ghost use Rattle.handlebars_base.specs.Bytes.{is_white, behind_white, is_symbol};
-ghost use Rattle.handlebars_base.specs.Texts.{starts, behind_byte, symbols_of, behind_symbols};
-ghost use Rattle.handlebars_base.specs.PathReading.{behind_up, ups_at};
+ghost use Rattle.handlebars_base.specs.Bytes.{is_white, after_white, is_symbol};
+ghost use Rattle.handlebars_base.specs.Texts.{starts, after_byte, symbols_of, after_symbols};
+ghost use Rattle.handlebars_base.specs.PathReading.{after_up, ups_at};
 
-/// Whether a byte belongs to a symbol. Most do as small letters.
+/// Returns whether a byte belongs to a symbol. Most that do are lowercase letters.
 #[inline(always)]
 pub fn is_symbol(byte: u8) -> bool
     ensures { result ≡ is_symbol byte }
@@ -39,10 +39,10 @@ fn symbols_len(bytes: &[u8]) -> usize
     n
 }
 
-/// The symbols at the front, and what follows them.
+/// Returns the symbols at the start, and what follows them.
 pub fn symbols(text: &str) -> (&str, &str)
-    ensures front { result.0.now ≡ symbols_of text.now }
-    ensures rest { result.1.now ≡ behind_symbols text.now }
+    ensures prefix { result.0.now ≡ symbols_of text.now }
+    ensures rest { result.1.now ≡ after_symbols text.now }
 {
     text.split_at(symbols_len(text.as_bytes()))
 }
@@ -62,8 +62,8 @@ pub fn starts_white(text: &str) -> bool
     }
 }
 
-pub fn behind_white(text: &str) -> &str
-    ensures { result.now ≡ behind_white text.now }
+pub fn after_white(text: &str) -> &str
+    ensures { result.now ≡ after_white text.now }
 {
     let mut rest = text;
     while let [first, ..] = rest.as_bytes()
@@ -74,11 +74,11 @@ pub fn behind_white(text: &str) -> &str
     rest
 }
 
-/// What follows a mark, where it stands at the front.
-#[tactic(auto, unfolding(crate::specs::Texts::behind_byte))]
-pub fn behind_byte(mark: u8, text: &str) -> Option<&str>
+/// Returns what follows a mark, if it is at the start.
+#[tactic(auto, unfolding(crate::specs::Texts::after_byte))]
+pub fn after_byte(mark: u8, text: &str) -> Option<&str>
     requires { mark < 128 }
-    ensures { option_map (λ rest. rest.now) result ≡ behind_byte mark text.now }
+    ensures { option_map (λ rest. rest.now) result ≡ after_byte mark text.now }
 {
     match text.as_bytes() {
         [first, ..] if *first == mark => Some(&text[1..]),
@@ -86,10 +86,10 @@ pub fn behind_byte(mark: u8, text: &str) -> Option<&str>
     }
 }
 
-/// What follows `../`, where it stands at the front.
-#[tactic(auto, unfolding(crate::specs::PathReading::behind_up))]
-fn behind_up(text: &str) -> Option<&str>
-    ensures { option_map (λ rest. rest.now) result ≡ behind_up text.now }
+/// Returns what follows `../`, if it is at the start.
+#[tactic(auto, unfolding(crate::specs::PathReading::after_up))]
+fn after_up(text: &str) -> Option<&str>
+    ensures { option_map (λ rest. rest.now) result ≡ after_up text.now }
 {
     match text.as_bytes() {
         [b'.', b'.', b'/', ..] => Some(&text[3..]),
@@ -97,15 +97,15 @@ fn behind_up(text: &str) -> Option<&str>
     }
 }
 
-/// How many `../` stand at the front, and what follows them.
+/// Returns the number of `../` at the start, and what follows them.
 pub fn ups(text: &str) -> (usize, &str)
     ensures { (result.0, result.1.now) ≡ ups_at 0 text.now }
 {
     let mut level = 0;
     let mut rest = text;
-    while let Some(behind) = behind_up(rest) {
+    while let Some(after) = after_up(rest) {
         level += 1;
-        rest = behind;
+        rest = after;
     }
     (level, rest)
 }

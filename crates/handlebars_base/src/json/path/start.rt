@@ -1,12 +1,12 @@
-//! What a path starts with, and what it means with the links behind it.
+//! The start of a path, and its meaning with the links after it.
 
 ghost use Rattle.std.specs.Prelude.{◌≡◌, ◌++◌, IfOk, OnOk};
 ghost use Rattle.std.specs.Option.{option_map};
 ghost use Rattle.handlebars_base.specs.PathView.{segments_of, start_of, started_at, reference_of};
-ghost use Rattle.handlebars_base.specs.PathReading.{at_sign_start, start_without_at_sign, start_at, links_behind, start_segments, start_meaning, ups_at};
+ghost use Rattle.handlebars_base.specs.PathReading.{at_sign_start, start_without_at_sign, start_at, links_after, start_segments, start_meaning, ups_at};
 
-use super::links::{PathPart, behind_links, is_up, part_at, push, push_links};
-use super::marks::{behind_byte, symbols, ups};
+use super::links::{PathPart, after_links, is_up, part_at, push, push_links};
+use super::marks::{after_byte, symbols, ups};
 use super::{Path, PathRule, PathSeg};
 use std::alloc::{AllocError, Global};
 
@@ -20,7 +20,7 @@ pub enum Start<'a> {
     Part(PathPart<'a>),
 }
 
-/// What follows `@`: the root, or a variable of a block.
+/// Reads what follows `@`: the root, or a variable of a block.
 #[tactic(auto, unfolding(crate::specs::PathReading::at_sign_start))]
 fn at_sign_start(text: &str) -> Option<(Start<'_>, &str)>
     ensures { option_map started_at result ≡ at_sign_start (ups_at 0 text.now) }
@@ -36,7 +36,8 @@ fn at_sign_start(text: &str) -> Option<(Start<'_>, &str)>
     Some((Start::Variable(level, name), rest))
 }
 
-/// The start of a path with no `@`. A `.` that begins no `..` is followed by a `/` and a part, or by nothing of the path.
+/// Reads the start of a path with no `@`. A `.` that doesn't begin `..` is followed by `/` and a part, or it is the
+/// whole path.
 #[tactic(auto, unfolding(crate::specs::PathReading::start_without_at_sign))]
 fn start_without_at_sign(text: &str) -> Option<(Start<'_>, &str)>
     ensures { option_map started_at result ≡ start_without_at_sign text.now }
@@ -44,52 +45,52 @@ fn start_without_at_sign(text: &str) -> Option<(Start<'_>, &str)>
     if let Some((first, rest)) = part_at(text) {
         return Some((Start::Part(first), rest));
     }
-    let behind = behind_byte(b'.', text)?;
-    let Some(rest) = behind_byte(b'/', behind) else {
-        return Some((Start::Here, behind));
+    let after = after_byte(b'.', text)?;
+    let Some(rest) = after_byte(b'/', after) else {
+        return Some((Start::Here, after));
     };
     let (first, rest) = part_at(rest)?;
     Some((Start::Part(first), rest))
 }
 
-/// The start of the path at the front, and what follows it.
+/// Reads the start of the path at the beginning of the text. Returns it with what follows it.
 #[tactic(auto, unfolding(crate::specs::PathReading::start_at))]
 pub fn start_at(text: &str) -> Option<(Start<'_>, &str)>
     ensures { option_map started_at result ≡ start_at text.now }
 {
-    match behind_byte(b'@', text) {
+    match after_byte(b'@', text) {
         Some(rest) => at_sign_start(rest),
         None => start_without_at_sign(text),
     }
 }
 
-/// What follows the links behind a start.
-pub fn behind_start<'a>(start: Start<'_>, text: &'a str) -> &'a str
-    ensures { result.now ≡ (links_behind (start_of start.entry) text.now).1 }
+/// Returns what follows the links after a start.
+pub fn after_start<'a>(start: Start<'_>, text: &'a str) -> &'a str
+    ensures { result.now ≡ (links_after (start_of start.entry) text.now).1 }
 {
     match start {
         Start::Here => text,
-        Start::Root | Start::Variable(_, _) => behind_links(false, text),
-        Start::Part(part) => behind_links(is_up(part), text),
+        Start::Root | Start::Variable(_, _) => after_links(false, text),
+        Start::Part(part) => after_links(is_up(part), text),
     }
 }
 
-/// The segments of a start and of the links behind it, and what follows these.
+/// Returns the segments of a start and of the links after it, and what follows them.
 pub fn start_segments<'a>(
     alloc: Global,
     start: Start<'_>,
     text: &'a str,
 ) -> Result<(Vec<PathSeg>, &'a str), AllocError>
     ensures segments { IfOk result (λ read. segments_of read.0.items
-        ≡ start_segments (start_of start.entry) (links_behind (start_of start.entry) text.now).0) }
-    ensures rest { IfOk result (λ read. read.1.now ≡ (links_behind (start_of start.entry) text.now).1) }
+        ≡ start_segments (start_of start.entry) (links_after (start_of start.entry) text.now).0) }
+    ensures rest { IfOk result (λ read. read.1.now ≡ (links_after (start_of start.entry) text.now).1) }
 {
     let mut segs = Vec::new(alloc);
     let rest = push_start(alloc, &mut segs, start, text)?;
     Ok((segs, rest))
 }
 
-/// Adds the segments of a start and of the links behind it: what follows these.
+/// Adds the segments of a start and of the links after it. Returns what follows them.
 fn push_start<'a>(
     alloc: Global,
     segs: &mut Vec<PathSeg>,
@@ -97,12 +98,12 @@ fn push_start<'a>(
     text: &'a str,
 ) -> Result<&'a str, AllocError>
     ensures segments { OnOk result (segments_of segs.new.items ≡ segments_of segs.old.items
-        ++ start_segments (start_of start.entry) (links_behind (start_of start.entry) text.now).0) }
-    ensures rest { IfOk result (λ rest. rest.now ≡ (links_behind (start_of start.entry) text.now).1) }
+        ++ start_segments (start_of start.entry) (links_after (start_of start.entry) text.now).0) }
+    ensures rest { IfOk result (λ rest. rest.now ≡ (links_after (start_of start.entry) text.now).1) }
 {
     match start {
         Start::Here => Ok(text),
-        Start::Variable(_, _) => Ok(behind_links(false, text)),
+        Start::Variable(_, _) => Ok(after_links(false, text)),
         Start::Root => {
             segs.push(PathSeg::Ruled(PathRule::Root))?;
             push_links(alloc, segs, false, text)
@@ -114,7 +115,7 @@ fn push_start<'a>(
     }
 }
 
-/// The path that starts there, and goes on by these segments.
+/// Returns the path with this start and these segments.
 pub fn path_from(
     alloc: Global,
     start: Start<'_>,

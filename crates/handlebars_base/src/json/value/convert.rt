@@ -1,4 +1,4 @@
-//! Values of JSON for other values.
+//! Conversion of other values to JSON.
 
 ghost use Rattle.std.specs.Prelude.{◌≡◌, IfOk};
 ghost use Rattle.serde_json.specs.Data.{null};
@@ -10,8 +10,14 @@ use crate::json::value::Json;
 use serde::Serialize;
 use std::alloc::{AllocError, Global};
 
-/// The value that JSON reads from what `src` is written as, and null where serde_json does not write
-/// it, of which nothing more is known, or does not read it, as where it nests deeper than 127.
+/// Converts `src` to a JSON value: the one that is read from the text that serde_json writes for `src`.
+///
+/// Returns null if serde_json doesn't write `src`, of which nothing more is specified, or doesn't read the text, for
+/// example because it nests deeper than 127 levels.
+///
+/// # Errors
+///
+/// Fails if memory runs out.
 pub fn to_json<T: Serialize>(alloc: Global, src: &T) -> Result<Json, AllocError>
     ensures { IfOk result (λ v. IsConverted T.writes src.now (view v)) }
 {
@@ -25,7 +31,7 @@ pub fn to_json<T: Serialize>(alloc: Global, src: &T) -> Result<Json, AllocError>
     }
 }
 
-// Want of memory stays what it is.
+// Returns null, unless the cause is out of memory, which stays an error.
 fn null_unless_memory(cause: serde_json::Error) -> Result<Json, AllocError>
     ensures value { IfOk result (λ v. view v ≡ null) }
     ensures memory { IfOk result (λ _. ¬ (IsMemory cause)) }

@@ -8,8 +8,7 @@ ghost use Rattle.handlebars_base.specs.Equal.{equals, is_null, items_equal, memb
 use crate::json::value::Json;
 use serde_json::{Map, Number};
 
-/// Whether two values are of one kind and have equal parts. A number outside the range counts as
-/// null.
+/// Returns whether two values are of the same kind and have equal parts. A number outside the range counts as null.
 #[cycle(equal)]
 pub fn equal(left: &Json, right: &Json) -> bool
     ensures { result ≡ equals (view left.now) (view right.now) }
@@ -36,7 +35,7 @@ pub fn equal(left: &Json, right: &Json) -> bool
     }
 }
 
-// Null, or a number that counts as null.
+// Returns whether a value is null or a number that counts as null.
 fn is_null(value: &Json) -> bool
     ensures { result ≡ is_null (view value.now) }
 {

@@ -7,8 +7,8 @@ ghost use Rattle.handlebars_base.specs.Compare.{compared, integer_of, integers_c
 use crate::json::value::Json;
 use std::cmp::Ordering;
 
-/// The order of two values: numbers by value, texts by their bytes, false below true, and a number
-/// and a text by the number that the text spells in decimal. No other two values have one.
+/// Compares two values: numbers by value, texts by their bytes, `false` below `true`, and a number with a text by
+/// the number that the text spells in decimal. Returns `None` for all other values, which have no order.
 pub fn compare(left: &Json, right: &Json) -> Option<Ordering>
     ensures { result ≡ compared (view left.now) (view right.now) }
 {
@@ -41,7 +41,7 @@ fn compare_integers(left: Option<i128>, right: Option<i128>) -> Option<Ordering>
     }
 }
 
-// The integer that a number is, or that a text spells.
+// Returns the integer that a number is, or that a text spells.
 fn integer_of(value: &Json) -> Option<i128>
     ensures { result ≡ integer_of (view value.now) }
 {
@@ -71,7 +71,7 @@ fn spelled_number(text: &str) -> Option<i128>
     }
 }
 
-// No zero in front of another digit, and no plus.
+// Rejects a zero before another digit, and a plus.
 fn spelled_digits(text: &str) -> Option<u64>
     ensures { result ≡ spelled_digits text.now }
 {

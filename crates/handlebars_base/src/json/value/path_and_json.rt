@@ -8,16 +8,16 @@ use crate::json::value::ScopedJson;
 use serde_json::Value;
 use std::alloc::{AllocError, Global};
 
-/// A value with where it came from, and its path as the template writes it, where it has one.
+/// A value with its origin, and with its path as written in the template, if it has one.
 pub struct PathAndJson<'rc> {
     relative_path: Option<String>,
     value: ScopedJson<'rc>,
-    // What `value` lends where there is none.
+    // What the method `value` borrows if the value is missing.
     null: Value,
     ghost is_null: { is_some (as_null (view null)) ≡ true },
 }
 
-// By hand, so that each place that lets one go is one call.
+// Not derived, so that each drop of one is a single call.
 impl<'rc> Drop for PathAndJson<'rc> {
     fn drop(self) {
         let PathAndJson {
@@ -35,6 +35,7 @@ impl<'rc> PathAndJson<'rc> {
     ghost use Rattle.handlebars_base.specs.Scoped.{found_of, is_constant, data_in, path_in, missing};
     ghost use Rattle.handlebars_base.specs.PathAndData.{path_and_data, constant_in};
 
+    /// Creates a value with its path as written in the template.
     pub fn new(relative_path: Option<String>, value: ScopedJson<'rc>) -> PathAndJson<'rc>
         ensures { path_and_data result ≡ record {
           relative_path = option_map string_bytes relative_path;
@@ -49,21 +50,22 @@ impl<'rc> PathAndJson<'rc> {
         }
     }
 
-    /// The path as the template writes it; none where it writes another thing, as a literal.
+    /// Returns the path as written in the template, or `None` if the template has something else there, such as a
+    /// literal.
     pub fn relative_path(&self) -> Option<&String>
         ensures { option_map (λ s. string_bytes s.now) result ≡ (path_and_data self.now).relative_path }
     {
         self.relative_path.as_ref()
     }
 
-    /// The full path of a value of the data.
+    /// Returns the full path if the value is one of the data.
     pub fn context_path(&self) -> Option<&Vec<String>>
         ensures { option_map (λ p. map string_bytes p.now.items) result ≡ path_in (path_and_data self.now).found }
     {
         self.value.context_path()
     }
 
-    /// The value, which is null where it is missing.
+    /// Returns the value, or null if it is missing.
     pub fn value(&self) -> &Value
         ensures { view result.now ≡ data_in (path_and_data self.now).found }
     {
@@ -73,7 +75,7 @@ impl<'rc> PathAndJson<'rc> {
         }
     }
 
-    /// The value, where it is a constant of the template.
+    /// Returns the value if it is a constant of the template.
     pub fn try_get_constant_value(&self) -> Option<&'rc Value>
         ensures { option_map (λ v. view v.now) result ≡ constant_in (path_and_data self.now) }
     {
@@ -85,13 +87,18 @@ impl<'rc> PathAndJson<'rc> {
         }
     }
 
+    /// Returns whether the value is missing.
     pub fn is_value_missing(&self) -> bool
         ensures { IsTrue result ↔ ((path_and_data self.now).found ≡ missing) }
     {
         self.value.is_missing()
     }
 
-    /// The value as a text; a missing one is empty.
+    /// Renders the value as a text. A missing value renders as the empty text.
+    ///
+    /// # Errors
+    ///
+    /// Fails if memory runs out.
     pub fn render(&self, alloc: Global) -> Result<String, AllocError>
         ensures { IfOk result (λ s. string_bytes s ≡ rendered (data_in (path_and_data self.now).found)) }
     {

@@ -1,4 +1,4 @@
-//! Writing values of JSON.
+//! Writing of JSON values.
 
 ghost use Rattle.std.specs.Prelude.{Bool, IfErr, true};
 ghost use Rattle.serde_json.specs.View.{view, number_view, items_view};
@@ -14,8 +14,12 @@ use itoa::Buffer;
 use serde_json::Number;
 use std::io;
 
-/// Writes a value, rendered, and escaped where escaping is on, with no text made on the way. Only
-/// texts need an escape.
+/// Writes a value as it is rendered, escaped if `escapes` is set. Builds no intermediate text. Only texts need
+/// escaping.
+///
+/// # Errors
+///
+/// Fails with the output's error if a write fails.
 #[cycle(write)]
 pub fn write_value<O: Output>(out: &mut O, value: &Json, escapes: bool) -> Result<(), io::Error>
     ensures written { Written (shown escapes (view value.now)) (O.held out.old) result (O.held out.new) }
@@ -58,7 +62,7 @@ fn write_items<O: Output>(out: &mut O, items: &Vec<Json>, escapes: bool) -> Resu
     Ok(())
 }
 
-// A text, escaped where escaping is on.
+// Writes a text, escaped if `escapes` is set.
 fn write_text<O: Output>(out: &mut O, text: &str, escapes: bool) -> Result<(), io::Error>
     ensures written { Written (escaped_if escapes text.now) (O.held out.old) result (O.held out.new) }
     ensures given { IfErr result O.may_give }
@@ -70,7 +74,7 @@ fn write_text<O: Output>(out: &mut O, text: &str, escapes: bool) -> Result<(), i
     }
 }
 
-// What stands before a member.
+// Writes what separates a member from the one before it.
 fn write_separator<O: Output>(out: &mut O, first: bool) -> Result<(), io::Error>
     ensures written { Written (separator first) (O.held out.old) result (O.held out.new) }
     ensures given { IfErr result O.may_give }
@@ -81,7 +85,7 @@ fn write_separator<O: Output>(out: &mut O, first: bool) -> Result<(), io::Error>
     out.write(", ")
 }
 
-// A number outside the range counts as null. Digits need no escape.
+// Writes a number. A number outside the range counts as null. Digits need no escaping.
 fn write_number<O: Output>(out: &mut O, number: &Number) -> Result<(), io::Error>
     ensures written { (escapes : Bool) → Written (escaped_if escapes (rendered_number (number_view number.now)))
         (O.held out.old) result (O.held out.new) }

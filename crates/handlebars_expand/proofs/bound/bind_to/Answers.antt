@@ -2,8 +2,8 @@ use Rattle.std.proofs.Common.{sym, ap, ◌∙◌}
 use Rattle.handlebars_base.specs.Answers.{gives}
 use Rattle.handlebars_helpers.specs.CallView.{HelperView}
 use Rattle.handlebars_helpers.specs.Callee.{Callee}
-use Rattle.handlebars_helpers.specs.OwnView.{local_of}
-use Rattle.handlebars_meaning.specs.State.{bound_call}
+use Rattle.handlebars_helpers.specs.UserView.{local_of}
+use Rattle.handlebars_semantics.specs.State.{bound_call}
 use Rattle.handlebars_expand.specs.View.{called_view}
 use Rattle.handlebars_expand.proofs.bound.bind_to.Goals as goal
 

@@ -1,23 +1,23 @@
 use Rattle.std.proofs.Common.{ap, sym}
 use Rattle.handlebars_base.specs.Answers.{answer_map}
 use Rattle.handlebars_base.specs.Scoped.{found_of}
-use Rattle.handlebars_helpers.specs.View.{kind_of}
+use Rattle.handlebars_helpers.specs.View.{built_in_kind}
 use Rattle.handlebars_helpers.specs.Callee.{built}
 use Rattle.handlebars_helpers.specs.View.{helper_view}
-use Rattle.handlebars_meaning.specs.Values.{HasRegisteredValue, choice_value}
+use Rattle.handlebars_semantics.specs.Values.{HasRegisteredValue, choice_value}
 use Rattle.handlebars_expand.specs.Boxed.{error_of}
 use Rattle.handlebars_expand.specs.View.{setting_in}
-use Rattle.handlebars_expand.proofs.Handed.{yields-handed}
+use Rattle.handlebars_expand.proofs.Propagated.{yields-propagated}
 use Rattle.handlebars_expand.proofs.Values.{yields-built}
 use Rattle.handlebars_expand.proofs.called.built_value.Goals as goal
 
 pub returns-in-Ok-clause-value : goal.returns-in-Ok-clause-value
 returns-in-Ok-clause-value g c = λ s.
-    yields-built (setting_in g.P.Registered.parts c.args.environment.now) s _ found_of (kind_of c.args.kind) _ c.chosen_value.result (rw c.strict.ensures at c.in-Ok.ensures)
+    yields-built (setting_in g.P.Registered.parts c.args.environment.now) s _ found_of (built_in_kind c.args.kind) _ c.chosen_value.result (rw c.strict.ensures at c.in-Ok.ensures)
     c.chosen_value.ensures.value c.chosen_value.ensures.memory
 
 pub returns-in-Err-clause-value : goal.returns-in-Err-clause-value
 returns-in-Err-clause-value g c = λ s.
-    yields-handed (HasRegisteredValue (setting_in g.P.Registered.parts c.args.environment.now) s (built (kind_of c.args.kind)) (helper_view c.args.view.now))
+    yields-propagated (HasRegisteredValue (setting_in g.P.Registered.parts c.args.environment.now) s (built (built_in_kind c.args.kind)) (helper_view c.args.view.now))
     c.in-Err.e (error_of c.new.result) c.new.ensures
     (λ other. sym (ap (answer_map choice_value) (rw c.strict.ensures at (c.in-Err.ensures other))))

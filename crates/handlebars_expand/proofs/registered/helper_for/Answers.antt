@@ -1,7 +1,7 @@
 use Rattle.std.proofs.Common.{Option, Some, option_map, ap, ◌∙◌}
 use Rattle.handlebars_scope.specs.Resolve.{or_else}
 use Rattle.handlebars_helpers.specs.Callee.{Target, calls_registered}
-use Rattle.handlebars_meaning.specs.State.{hook, registered_target}
+use Rattle.handlebars_semantics.specs.State.{hook, registered_target}
 use Rattle.handlebars_expand.proofs.registered.helper_for.Goals as goal
 
 pub returns-in-Some : goal.returns-in-Some

@@ -4,15 +4,15 @@ use Rattle.handlebars_base.specs.Answers.{gives}
 use Rattle.handlebars_base.specs.RenderRefusals.{refusal_of}
 use Rattle.handlebars_helpers.specs.Boolean.{negation}
 use Rattle.handlebars_helpers.specs.View.{helper_view}
-use Rattle.handlebars_helpers.proofs.Values.{answers-handed_on, negation-gives, negation-refuses}
+use Rattle.handlebars_helpers.proofs.Values.{answers-propagated, negation-gives, negation-fails}
 use Rattle.handlebars_helpers.proofs.boolean.negation.Goals as goal
 
 pub returns-in_err-value : goal.returns-in_err-value
 returns-in_err-value c =
     let v = (helper_view c.args.helper.now).call in
-    answers-handed_on (λ b. b) (negation c.args.strict v) c.from_residual.result c.in_err-value.field-0.0
+    answers-propagated (λ b. b) (negation c.args.strict v) c.from_residual.result c.in_err-value.field-0.0
     c.from_residual.ensures.1
-    (λ other. negation-refuses c.args.strict v (refusal_of c.in_err-value.field-0.0) (c.in_err-value.ensures other))
+    (λ other. negation-fails c.args.strict v (refusal_of c.in_err-value.field-0.0) (c.in_err-value.ensures other))
 
 pub returns : goal.returns
 returns c =

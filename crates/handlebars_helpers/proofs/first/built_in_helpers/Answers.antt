@@ -1,8 +1,8 @@
 use Rattle.handlebars_helpers.specs.EntryView.{callees_of}
-use Rattle.handlebars_helpers.specs.View.{kind_of}
+use Rattle.handlebars_helpers.specs.View.{built_in_kind}
 use Rattle.handlebars_helpers.proofs.FirstEntries.{update_all-built_ins}
 use Rattle.handlebars_helpers.proofs.first.built_in_helpers.Goals as goal
 
 pub returns : goal.returns
-returns g c = update_all-built_ins (λ row. (row.0.now, kind_of row.1)) c.table.result c.all.name-index
+returns g c = update_all-built_ins (λ row. (row.0.now, built_in_kind row.1)) c.table.result c.all.name-index
     (callees_of c.all.helpers) c.table.ensures c.all-test.false c.all.invariant

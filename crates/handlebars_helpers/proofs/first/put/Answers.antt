@@ -2,7 +2,7 @@ use Rattle.std.proofs.Common.{string_bytes}
 use Rattle.std.proofs.lemmas.Result.{on_ok_weaker}
 use Rattle.handlebars_helpers.specs.ByNameView.{entry_at}
 use Rattle.handlebars_helpers.specs.EntryView.{entry_callee}
-use Rattle.handlebars_helpers.specs.declared.own.entry.HelperEntryOf.TheVariants.{Built}
+use Rattle.handlebars_helpers.specs.declared.user.entry.HelperEntryOf.TheVariants.{Built}
 use Rattle.handlebars_helpers.proofs.FirstEntries.{seen-inserted}
 use Rattle.handlebars_helpers.proofs.first.put.Goals as goal
 

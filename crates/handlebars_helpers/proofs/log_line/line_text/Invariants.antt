@@ -3,7 +3,7 @@ use Rattle.handlebars_base.specs.PathAndData.{path_and_data}
 use Rattle.handlebars_helpers.specs.LogLine.{line_text}
 use Rattle.handlebars_helpers.proofs.log_line.line_text.Given as goal
 
--- the line so far with the text of the parameters left is the whole line
+-- the line so far, followed by the text of the parameters that are left, is the whole line
 abbrev pub invariant-params : goal.invariant-params
 invariant-params l =
     string_bytes l.line ++ line_text l.first (map path_and_data (drop l.param-index l.param-items))

@@ -2,14 +2,14 @@ use Rattle.serde_json.specs.View.{view}
 use Rattle.handlebars_base.specs.RenderRefusals.{refusal_of}
 use Rattle.handlebars_helpers.specs.Params.{two_values}
 use Rattle.handlebars_helpers.specs.View.{helper_view}
-use Rattle.handlebars_helpers.proofs.Values.{answers-handed_on, two_values-refuses}
+use Rattle.handlebars_helpers.proofs.Values.{answers-propagated, two_values-fails}
 use Rattle.handlebars_helpers.proofs.params.two_values.Goals as goal
 
 pub returns-in_err-second : goal.returns-in_err-second
 returns-in_err-second c =
     let v = (helper_view c.args.helper.now).call in
     let e = c.in_err-second.field-0.0 in
-    answers-handed_on (λ d. (view d.0.now, view d.1.now)) (two_values c.args.strict c.args.name.now v)
+    answers-propagated (λ d. (view d.0.now, view d.1.now)) (two_values c.args.strict c.args.name.now v)
     c.from_residual-in_err-second.result e c.from_residual-in_err-second.ensures.1
-    (λ other. two_values-refuses c.args.strict c.args.name.now v (view c.in_ok-first.first.now) (refusal_of e)
+    (λ other. two_values-fails c.args.strict c.args.name.now v (view c.in_ok-first.first.now) (refusal_of e)
     c.in_ok-first.ensures (c.in_err-second.ensures other))

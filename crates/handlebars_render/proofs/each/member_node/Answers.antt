@@ -5,4 +5,4 @@ use Rattle.handlebars_render.proofs.each.member_node.Goals as goal
 
 pub returns-in-None : goal.returns-in-None
 returns-in-None c = rw c.in-None.is
-    (member-indexed (view c.args.node.now) c.args.turn.index c.get-in-None.result (omega arith) c.get-in-None.ensures)
+    (member-indexed (view c.args.node.now) c.args.iteration.index c.get-in-None.result (omega arith) c.get-in-None.ensures)

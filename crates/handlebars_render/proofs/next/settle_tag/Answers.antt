@@ -5,5 +5,5 @@ use Rattle.handlebars_render.proofs.Leaves.{comes_to-settles}
 use Rattle.handlebars_render.proofs.next.settle_tag.Goals as goal
 
 pub returns-then-block-clause-comes : goal.returns-then-block-clause-comes
-returns-then-block-clause-comes g c = λ site stands kept. rw c.if-block.true
-    (comes_to-settles _ _ site true (call_view c.args.helper.now) _ _ _ _ (answer_of c.settle_call.result) refl (c.settle_call.ensures site kept))
+returns-then-block-clause-comes g c = λ occurrence location captured. rw c.if-block.true
+    (comes_to-settles _ _ occurrence true (call_view c.args.helper.now) _ _ _ _ (answer_of c.settle_call.result) refl (c.settle_call.ensures occurrence captured))

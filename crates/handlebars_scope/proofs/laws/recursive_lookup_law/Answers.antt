@@ -1,4 +1,4 @@
-use Rattle.handlebars_scope.proofs.Fronts.{takes_longest}
+use Rattle.handlebars_scope.proofs.Prefixes.{takes_longest}
 use Rattle.handlebars_scope.proofs.laws.recursive_lookup_law.Goals as goal
 
 pub returns : goal.returns

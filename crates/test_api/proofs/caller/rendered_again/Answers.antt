@@ -1,5 +1,5 @@
 use Rattle.std.proofs.Common.{[], ◌∙◌, sym, ap}
-use Rattle.handlebars_meaning.specs.Pieces.{join}
+use Rattle.handlebars_semantics.specs.Pieces.{join}
 use Rattle.handlebars.proofs.WithoutFiles.{without-files}
 use Rattle.test_api.proofs.Texts.{same_text-merely}
 use Rattle.test_api.proofs.caller.rendered_again.Goals as goal

@@ -1,6 +1,6 @@
 use Rattle.std.proofs.Common.{[], ◌∙◌, sym, ap}
+use Rattle.handlebars_base.specs.EscapeLaws.{marks_in}
 use Rattle.handlebars_scope.specs.Contexts.{data_of}
-use Rattle.handlebars_markup.specs.Blind.{marks_in}
 use Rattle.handlebars.proofs.WithoutFiles.{without-files}
 use Rattle.test_api.proofs.Texts.{same_text-merely}
 use Rattle.test_api.proofs.strangers.rendered_alike.Goals as goal

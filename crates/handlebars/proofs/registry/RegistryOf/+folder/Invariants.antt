@@ -2,7 +2,7 @@ use Rattle.std.proofs.Common.{◌+◌, ◌*◌, List, drop}
 use Rattle.handlebars.specs.Files.{HasLoaded, Loaded}
 use Rattle.handlebars.specs.Folder.{filter_of}
 use Rattle.handlebars.specs.View.{modes_of}
-use Rattle.handlebars.proofs.Walks.{GoesOn}
+use Rattle.handlebars.proofs.Walks.{ExtendsWalk}
 use Rattle.handlebars.proofs.registry.RegistryOf.+folder.Given as goal
 
 -- From one level to the next the functions follow in this order.
@@ -17,5 +17,5 @@ decreases-register_entry g l = 3 * l.levels
 
 abbrev pub invariant-register_entries-entries : goal.invariant-register_entries-entries
 invariant-register_entries-entries g l = (loaded : List Loaded) × HasLoaded loaded l.fn.self l.self
-    × GoesOn g.R.TemplateReader.reads g.R.TemplateReader.lists (modes_of l.fn.self).prevent_indent (filter_of l.options) loaded
-    (record { path = l.folder; front = l.front; levels = l.levels }) l.entries (drop l.entry-index l.entries) l.fn.files l.files
+    × ExtendsWalk g.R.TemplateReader.reads g.R.TemplateReader.lists (modes_of l.fn.self).prevent_indent (filter_of l.options) loaded
+    (record { path = l.folder; prefix = l.prefix; levels = l.levels }) l.entries (drop l.entry-index l.entries) l.fn.files l.files

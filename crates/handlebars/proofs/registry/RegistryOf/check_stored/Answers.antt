@@ -1,13 +1,13 @@
 use Rattle.std.proofs.Common.{true, false}
 use Rattle.std.specs.Prelude.{string_bytes}
-use Rattle.handlebars.specs.Files.{laid_over, tree_in}
+use Rattle.handlebars.specs.Files.{overlaid_on, tree_in}
 use Rattle.handlebars.specs.View.{stored_tree}
 use Rattle.handlebars.proofs.MarkupNames.{unread-next, unread-skip, tree_in-found}
 use Rattle.handlebars.proofs.registry.RegistryOf.check_stored.Goals as goal
 
 pub names-preserved-in-Continue-1 : goal.names-preserved-in-Continue-1
 names-preserved-in-Continue-1 g c =
-    unread-next (g.E.OwnParts.registered c.args.self.now.entries) (laid_over (tree_in c.args.read.now) (stored_tree c.args.self.now))
+    unread-next (g.E.UserParts.registered c.args.self.now.entries) (overlaid_on (tree_in c.args.read.now) (stored_tree c.args.self.now))
     c.args.faults.now.items _ (tree_in c.args.read.now) c.names.faults.items c.check_named.new.faults.items
     c.names.name-iterator c.next.new.self (c.in-Some.name.now, c.in-Some.field-0-1.now) c.as_str-then-not-contains_key.result.now
     c.in-Some.ensures.steps c.as_str-then-not-contains_key.ensures.value
@@ -17,7 +17,7 @@ names-preserved-in-Continue-1 g c =
 
 pub names-preserved : goal.names-preserved
 names-preserved g c =
-    unread-skip (g.E.OwnParts.registered c.args.self.now.entries) (laid_over (tree_in c.args.read.now) (stored_tree c.args.self.now))
+    unread-skip (g.E.UserParts.registered c.args.self.now.entries) (overlaid_on (tree_in c.args.read.now) (stored_tree c.args.self.now))
     c.args.faults.now.items _ (tree_in c.args.read.now) c.names.faults.items
     c.names.name-iterator c.next.new.self (c.in-Some.name.now, c.in-Some.field-0-1.now) c.in-Some.ensures.steps
     (tree_in-found c.args.read.now (string_bytes c.in-Some.name.now) c.as_str.result.now c.contains_key.result true

@@ -1,13 +1,13 @@
-use Rattle.handlebars_markup.proofs.Finding.{Leads}
-use Rattle.handlebars.specs.Files.{laid_over, tree_in}
-use Rattle.handlebars.specs.Markup.{faults_under_all, names_in, unread}
+use Rattle.handlebars_markup.proofs.Finding.{Accumulates}
+use Rattle.handlebars.specs.Files.{overlaid_on, tree_in}
+use Rattle.handlebars.specs.Markup.{faults_under_all, key_names, unread}
 use Rattle.handlebars.specs.View.{stored_tree}
 use Rattle.handlebars.proofs.registry.RegistryOf.check_stored.Given as goal
 
 abbrev pub invariant-names : goal.invariant-names
 invariant-names g l =
-    Leads l.fn.faults.items l.faults.items
-    (faults_under_all (g.E.OwnParts.registered l.self.entries) (laid_over (tree_in l.read) (stored_tree l.self))
-    (unread (tree_in l.read) (names_in l.name-iterator)))
-    (faults_under_all (g.E.OwnParts.registered l.self.entries) (laid_over (tree_in l.read) (stored_tree l.self))
-    (unread (tree_in l.read) (names_in l.self.templates.entries)))
+    Accumulates l.fn.faults.items l.faults.items
+    (faults_under_all (g.E.UserParts.registered l.self.entries) (overlaid_on (tree_in l.read) (stored_tree l.self))
+    (unread (tree_in l.read) (key_names l.name-iterator)))
+    (faults_under_all (g.E.UserParts.registered l.self.entries) (overlaid_on (tree_in l.read) (stored_tree l.self))
+    (unread (tree_in l.read) (key_names l.self.templates.entries)))

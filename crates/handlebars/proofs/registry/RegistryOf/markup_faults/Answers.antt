@@ -1,5 +1,5 @@
 use Rattle.std.proofs.lemmas.Result.{err_from_is_err_and}
-use Rattle.handlebars.proofs.MarkupRead.{told-by-name}
+use Rattle.handlebars.proofs.MarkupRead.{reported-by-name}
 use Rattle.handlebars.proofs.OverLaws.{fails-at-file}
 use Rattle.handlebars.proofs.registry.RegistryOf.markup_faults.Goals as goal
 
@@ -15,6 +15,6 @@ returns-clause-ok g c =
     record {
       read = all.0;
       reads_all = all.1;
-      holds = told-by-name g.E.OwnParts.registered g.E.OwnParts.own c.args.self.now all.0 c.in_ok-read.read c.new-faults.result.items
+      holds = reported-by-name g.E.UserParts.registered g.E.UserParts.user c.args.self.now all.0 c.in_ok-read.read c.new-faults.result.items
           c.check_registered.new.faults.items found.0 all.2 c.new-faults.ensures.items found.1 found.2;
     }

@@ -5,5 +5,5 @@ use Rattle.handlebars.proofs.registry.RegistryOf.markup_is_fixed.Goals as goal
 
 pub returns-in-Ok-clause-ok : goal.returns-in-Ok-clause-ok
 returns-in-Ok-clause-ok g c =
-    judged g.E.OwnParts.registered g.E.OwnParts.own c.args.self.now g.R.TemplateReader.reads None _ _ NoSource c.in-Ok.faults.items _
+    judged g.E.UserParts.registered g.E.UserParts.user c.args.self.now g.R.TemplateReader.reads None _ _ NoSource c.in-Ok.faults.items _
     c.first_of.ensures c.in-Ok.ensures.ok

@@ -7,26 +7,26 @@ use Rattle.handlebars_markup.proofs.FixedMarkup.{two_runs}
 use Rattle.handlebars.proofs.AnswerLaws.{FromSource-one, has_one_answer, answer_has_origins, answer_stays}
 use Rattle.handlebars.proofs.OverLaws.{over-lawful}
 use Rattle.handlebars.proofs.WritesRead.{reading-source, reading-uncompiled}
-use Rattle.handlebars.proofs.Telling.{TellsPieces-begun}
-use Rattle.handlebars.specs.PieceCalls.{TellsPieces, WasToldNothing}
+use Rattle.handlebars.proofs.Emitting.{EmitsPieces-begun}
+use Rattle.handlebars.specs.PieceCalls.{EmitsPieces, EmittedNothing}
 use Rattle.handlebars.proofs.registry.RegistryOf.render_template_pieces.Goals as goal
 
-pub returns-in-Ok-clause-tells : goal.returns-in-Ok-clause-tells
-returns-in-Ok-clause-tells g c =
-    reading-source WasToldNothing (λ p b. TellsPieces p b g.O.PieceOutput.may_give) g.E.OwnParts.registered g.E.OwnParts.own c.args.self.now (data_of c.args.ctx.now) _ _ _ (λ p b one t f l a. TellsPieces-begun p b one t) _ c.args.source.now (tree_view c.in-Ok.template)
-    c.in-Ok.ensures.ok c.tell_compiled.ensures.tells
+pub returns-in-Ok-clause-emits : goal.returns-in-Ok-clause-emits
+returns-in-Ok-clause-emits g c =
+    reading-source EmittedNothing (λ p b. EmitsPieces p b g.O.PieceOutput.may_give) g.E.UserParts.registered g.E.UserParts.user c.args.self.now (data_of c.args.ctx.now) _ _ _ (λ p b one t f l a. EmitsPieces-begun p b one t) _ c.args.source.now (tree_view c.in-Ok.template)
+    c.in-Ok.ensures.ok c.emit_compiled.ensures.emits
 
-pub returns-in-Err-clause-tells : goal.returns-in-Err-clause-tells
-returns-in-Err-clause-tells g c =
-    reading-uncompiled WasToldNothing (λ ts. refl) c.args.self.now _ _ _ c.args.source.now _ (template_refusal_of c.in-Err.e) c.into.result _
+pub returns-in-Err-clause-emits : goal.returns-in-Err-clause-emits
+returns-in-Err-clause-emits g c =
+    reading-uncompiled EmittedNothing (λ ts. refl) c.args.self.now _ _ _ c.args.source.now _ (template_refusal_of c.in-Err.e) c.into.result _
     c.in-Err.ensures.err c.into.ensures
 
 pub returns-in-Ok-clause-one : goal.returns-in-Ok-clause-one
-returns-in-Ok-clause-one g c = λ read. has_one_answer _ (over-lawful g.E.OwnParts.registered g.E.OwnParts.own c.args.self.now (data_of c.args.ctx.now) read c.keeps_law.ensures)
+returns-in-Ok-clause-one g c = λ read. has_one_answer _ (over-lawful g.E.UserParts.registered g.E.UserParts.user c.args.self.now (data_of c.args.ctx.now) read c.satisfies_law.ensures)
     _ (FromSource-one _ _)
 
-pub returns-in-Ok-clause-alike : goal.returns-in-Ok-clause-alike
-returns-in-Ok-clause-alike g c = λ read. two_runs _ (over-lawful g.E.OwnParts.registered g.E.OwnParts.own c.args.self.now (data_of c.args.ctx.now) read c.keeps_law.ensures)
+pub returns-in-Ok-clause-agree : goal.returns-in-Ok-clause-agree
+returns-in-Ok-clause-agree g c = λ read. two_runs _ (over-lawful g.E.UserParts.registered g.E.UserParts.user c.args.self.now (data_of c.args.ctx.now) read c.satisfies_law.ensures)
     _ (FromSource-one _ _)
 
 pub returns-in-Ok-clause-origins : goal.returns-in-Ok-clause-origins
@@ -36,11 +36,11 @@ pub returns-in-Ok-clause-stays : goal.returns-in-Ok-clause-stays
 returns-in-Ok-clause-stays g c = λ read. answer_stays _ _
 
 pub returns-in-Err-clause-one : goal.returns-in-Err-clause-one
-returns-in-Err-clause-one g c = λ read. has_one_answer _ (over-lawful g.E.OwnParts.registered g.E.OwnParts.own c.args.self.now (data_of c.args.ctx.now) read c.keeps_law.ensures)
+returns-in-Err-clause-one g c = λ read. has_one_answer _ (over-lawful g.E.UserParts.registered g.E.UserParts.user c.args.self.now (data_of c.args.ctx.now) read c.satisfies_law.ensures)
     _ (FromSource-one _ _)
 
-pub returns-in-Err-clause-alike : goal.returns-in-Err-clause-alike
-returns-in-Err-clause-alike g c = λ read. two_runs _ (over-lawful g.E.OwnParts.registered g.E.OwnParts.own c.args.self.now (data_of c.args.ctx.now) read c.keeps_law.ensures)
+pub returns-in-Err-clause-agree : goal.returns-in-Err-clause-agree
+returns-in-Err-clause-agree g c = λ read. two_runs _ (over-lawful g.E.UserParts.registered g.E.UserParts.user c.args.self.now (data_of c.args.ctx.now) read c.satisfies_law.ensures)
     _ (FromSource-one _ _)
 
 pub returns-in-Err-clause-origins : goal.returns-in-Err-clause-origins

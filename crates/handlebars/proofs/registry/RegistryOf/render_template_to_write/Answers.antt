@@ -13,14 +13,14 @@ pub returns-in-Err-clause-writes : goal.returns-in-Err-clause-writes
 returns-in-Err-clause-writes g c = writes_unconverted _ _ c.in-Err.e _ c.in-Err.ensures.plain c.in-Err.ensures.err refl
 
 pub returns-in-Ok-clause-one : goal.returns-in-Ok-clause-one
-returns-in-Ok-clause-one g c = λ d read. has_one_answer _ (over-lawful g.E.OwnParts.registered g.E.OwnParts.own c.args.self.now d read c.keeps_law.ensures)
+returns-in-Ok-clause-one g c = λ d read. has_one_answer _ (over-lawful g.E.UserParts.registered g.E.UserParts.user c.args.self.now d read c.satisfies_law.ensures)
     _ (FromSource-one _ _)
 
 pub returns-in-Ok-clause-origins : goal.returns-in-Ok-clause-origins
 returns-in-Ok-clause-origins g c = λ d read. answer_has_origins _ _
 
 pub returns-in-Err-clause-one : goal.returns-in-Err-clause-one
-returns-in-Err-clause-one g c = λ d read. has_one_answer _ (over-lawful g.E.OwnParts.registered g.E.OwnParts.own c.args.self.now d read c.keeps_law.ensures)
+returns-in-Err-clause-one g c = λ d read. has_one_answer _ (over-lawful g.E.UserParts.registered g.E.UserParts.user c.args.self.now d read c.satisfies_law.ensures)
     _ (FromSource-one _ _)
 
 pub returns-in-Err-clause-origins : goal.returns-in-Err-clause-origins

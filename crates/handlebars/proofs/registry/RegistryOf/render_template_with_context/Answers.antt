@@ -5,11 +5,11 @@ use Rattle.handlebars_template.specs.TreeView.{tree_view}
 use Rattle.handlebars.proofs.Asks.{asks-nothing}
 use Rattle.handlebars_markup.proofs.FixedMarkup.{two_runs}
 use Rattle.handlebars.proofs.AnswerLaws.{FromSource-one, has_one_answer, answer_has_origins, answer_stays}
-use Rattle.handlebars.proofs.OverLaws.{over-lawful, gives-by-source, refuses-by-source, source-fails-at-file, source-refused}
+use Rattle.handlebars.proofs.OverLaws.{over-lawful, gives-by-source, fails-by-source, source-fails-at-file, source-rejected}
 use Rattle.handlebars.proofs.registry.RegistryOf.render_template_with_context.Goals as goal
 
 pub returns-in_err-template-clause-err : goal.returns-in_err-template-clause-err
-returns-in_err-template-clause-err g c = source-refused _ _ _ _ _ _ (template_refusal_of c.in_err-template.field-0.0) c.from_residual.result
+returns-in_err-template-clause-err g c = source-rejected _ _ _ _ _ _ (template_refusal_of c.in_err-template.field-0.0) c.from_residual.result
     c.in_err-template.ensures.err c.from_residual.ensures.1
 
 pub returns-in_err-read-clause-err : goal.returns-in_err-read-clause-err
@@ -20,22 +20,22 @@ returns-in_err-read-clause-err g c =
 
 pub returns-clause-ok : goal.returns-clause-ok
 returns-clause-ok g c = IfOk-weaker c.renders_over.result _ _
-    (λ text is. gives-by-source g.E.OwnParts.registered g.E.OwnParts.own c.args.self.now (data_of c.args.ctx.now) _ _ _ c.in_ok-read.read _ c.args.source.now
+    (λ text is. gives-by-source g.E.UserParts.registered g.E.UserParts.user c.args.self.now (data_of c.args.ctx.now) _ _ _ c.in_ok-read.read _ c.args.source.now
     (tree_view c.in_ok-template.template) c.in_ok-template.ensures.ok c.in_ok-read.ensures.ok _ _ _ c.in_ok-rc.ensures.state is.1)
     c.renders_over.ensures.ok
 
 pub returns-clause-err : goal.returns-clause-err
 returns-clause-err g c = IfErr-weaker c.renders_over.result _ _
-    (λ e is other. refuses-by-source g.E.OwnParts.registered g.E.OwnParts.own c.args.self.now (data_of c.args.ctx.now) _ _ _ c.in_ok-read.read _ c.args.source.now
+    (λ e is other. fails-by-source g.E.UserParts.registered g.E.UserParts.user c.args.self.now (data_of c.args.ctx.now) _ _ _ c.in_ok-read.read _ c.args.source.now
     (tree_view c.in_ok-template.template) c.in_ok-template.ensures.ok c.in_ok-read.ensures.ok _ _ c.in_ok-rc.ensures.state
     (is c.in_ok-rc.ensures.ready other)) c.renders_over.ensures.err
 
 pub returns-in_err-template-clause-one : goal.returns-in_err-template-clause-one
-returns-in_err-template-clause-one g c = λ read. has_one_answer _ (over-lawful g.E.OwnParts.registered g.E.OwnParts.own c.args.self.now (data_of c.args.ctx.now) read c.keeps_law.ensures)
+returns-in_err-template-clause-one g c = λ read. has_one_answer _ (over-lawful g.E.UserParts.registered g.E.UserParts.user c.args.self.now (data_of c.args.ctx.now) read c.satisfies_law.ensures)
     _ (FromSource-one _ _)
 
-pub returns-in_err-template-clause-alike : goal.returns-in_err-template-clause-alike
-returns-in_err-template-clause-alike g c = λ read. two_runs _ (over-lawful g.E.OwnParts.registered g.E.OwnParts.own c.args.self.now (data_of c.args.ctx.now) read c.keeps_law.ensures)
+pub returns-in_err-template-clause-agree : goal.returns-in_err-template-clause-agree
+returns-in_err-template-clause-agree g c = λ read. two_runs _ (over-lawful g.E.UserParts.registered g.E.UserParts.user c.args.self.now (data_of c.args.ctx.now) read c.satisfies_law.ensures)
     _ (FromSource-one _ _)
 
 pub returns-in_err-template-clause-origins : goal.returns-in_err-template-clause-origins
@@ -45,11 +45,11 @@ pub returns-in_err-template-clause-stays : goal.returns-in_err-template-clause-s
 returns-in_err-template-clause-stays g c = λ read. answer_stays _ _
 
 pub returns-in_err-read-clause-one : goal.returns-in_err-read-clause-one
-returns-in_err-read-clause-one g c = λ read. has_one_answer _ (over-lawful g.E.OwnParts.registered g.E.OwnParts.own c.args.self.now (data_of c.args.ctx.now) read c.keeps_law.ensures)
+returns-in_err-read-clause-one g c = λ read. has_one_answer _ (over-lawful g.E.UserParts.registered g.E.UserParts.user c.args.self.now (data_of c.args.ctx.now) read c.satisfies_law.ensures)
     _ (FromSource-one _ _)
 
-pub returns-in_err-read-clause-alike : goal.returns-in_err-read-clause-alike
-returns-in_err-read-clause-alike g c = λ read. two_runs _ (over-lawful g.E.OwnParts.registered g.E.OwnParts.own c.args.self.now (data_of c.args.ctx.now) read c.keeps_law.ensures)
+pub returns-in_err-read-clause-agree : goal.returns-in_err-read-clause-agree
+returns-in_err-read-clause-agree g c = λ read. two_runs _ (over-lawful g.E.UserParts.registered g.E.UserParts.user c.args.self.now (data_of c.args.ctx.now) read c.satisfies_law.ensures)
     _ (FromSource-one _ _)
 
 pub returns-in_err-read-clause-origins : goal.returns-in_err-read-clause-origins
@@ -59,11 +59,11 @@ pub returns-in_err-read-clause-stays : goal.returns-in_err-read-clause-stays
 returns-in_err-read-clause-stays g c = λ read. answer_stays _ _
 
 pub returns-in_err-rc-clause-one : goal.returns-in_err-rc-clause-one
-returns-in_err-rc-clause-one g c = λ read. has_one_answer _ (over-lawful g.E.OwnParts.registered g.E.OwnParts.own c.args.self.now (data_of c.args.ctx.now) read c.keeps_law.ensures)
+returns-in_err-rc-clause-one g c = λ read. has_one_answer _ (over-lawful g.E.UserParts.registered g.E.UserParts.user c.args.self.now (data_of c.args.ctx.now) read c.satisfies_law.ensures)
     _ (FromSource-one _ _)
 
-pub returns-in_err-rc-clause-alike : goal.returns-in_err-rc-clause-alike
-returns-in_err-rc-clause-alike g c = λ read. two_runs _ (over-lawful g.E.OwnParts.registered g.E.OwnParts.own c.args.self.now (data_of c.args.ctx.now) read c.keeps_law.ensures)
+pub returns-in_err-rc-clause-agree : goal.returns-in_err-rc-clause-agree
+returns-in_err-rc-clause-agree g c = λ read. two_runs _ (over-lawful g.E.UserParts.registered g.E.UserParts.user c.args.self.now (data_of c.args.ctx.now) read c.satisfies_law.ensures)
     _ (FromSource-one _ _)
 
 pub returns-in_err-rc-clause-origins : goal.returns-in_err-rc-clause-origins
@@ -73,11 +73,11 @@ pub returns-in_err-rc-clause-stays : goal.returns-in_err-rc-clause-stays
 returns-in_err-rc-clause-stays g c = λ read. answer_stays _ _
 
 pub returns-clause-one : goal.returns-clause-one
-returns-clause-one g c = λ read. has_one_answer _ (over-lawful g.E.OwnParts.registered g.E.OwnParts.own c.args.self.now (data_of c.args.ctx.now) read c.keeps_law.ensures)
+returns-clause-one g c = λ read. has_one_answer _ (over-lawful g.E.UserParts.registered g.E.UserParts.user c.args.self.now (data_of c.args.ctx.now) read c.satisfies_law.ensures)
     _ (FromSource-one _ _)
 
-pub returns-clause-alike : goal.returns-clause-alike
-returns-clause-alike g c = λ read. two_runs _ (over-lawful g.E.OwnParts.registered g.E.OwnParts.own c.args.self.now (data_of c.args.ctx.now) read c.keeps_law.ensures)
+pub returns-clause-agree : goal.returns-clause-agree
+returns-clause-agree g c = λ read. two_runs _ (over-lawful g.E.UserParts.registered g.E.UserParts.user c.args.self.now (data_of c.args.ctx.now) read c.satisfies_law.ensures)
     _ (FromSource-one _ _)
 
 pub returns-clause-origins : goal.returns-clause-origins

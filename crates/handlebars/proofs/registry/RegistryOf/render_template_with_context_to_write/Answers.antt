@@ -12,7 +12,7 @@ use Rattle.handlebars.proofs.registry.RegistryOf.render_template_with_context_to
 
 pub returns-in-Ok-clause-writes : goal.returns-in-Ok-clause-writes
 returns-in-Ok-clause-writes g c =
-    reading-source AppendsNothing Writes g.E.OwnParts.registered g.E.OwnParts.own c.args.self.now (data_of c.args.ctx.now) _ _ _ (λ p b one t f l a. Writes-begun p b one t) _ c.args.source.now (tree_view c.in-Ok.template)
+    reading-source AppendsNothing Writes g.E.UserParts.registered g.E.UserParts.user c.args.self.now (data_of c.args.ctx.now) _ _ _ (λ p b one t f l a. Writes-begun p b one t) _ c.args.source.now (tree_view c.in-Ok.template)
     c.in-Ok.ensures.ok c.write_compiled.ensures.writes
 
 pub returns-in-Err-clause-writes : goal.returns-in-Err-clause-writes
@@ -21,11 +21,11 @@ returns-in-Err-clause-writes g c =
     c.in-Err.ensures.err c.into.ensures
 
 pub returns-in-Ok-clause-one : goal.returns-in-Ok-clause-one
-returns-in-Ok-clause-one g c = λ read. has_one_answer _ (over-lawful g.E.OwnParts.registered g.E.OwnParts.own c.args.self.now (data_of c.args.ctx.now) read c.keeps_law.ensures)
+returns-in-Ok-clause-one g c = λ read. has_one_answer _ (over-lawful g.E.UserParts.registered g.E.UserParts.user c.args.self.now (data_of c.args.ctx.now) read c.satisfies_law.ensures)
     _ (FromSource-one _ _)
 
-pub returns-in-Ok-clause-alike : goal.returns-in-Ok-clause-alike
-returns-in-Ok-clause-alike g c = λ read. two_runs _ (over-lawful g.E.OwnParts.registered g.E.OwnParts.own c.args.self.now (data_of c.args.ctx.now) read c.keeps_law.ensures)
+pub returns-in-Ok-clause-agree : goal.returns-in-Ok-clause-agree
+returns-in-Ok-clause-agree g c = λ read. two_runs _ (over-lawful g.E.UserParts.registered g.E.UserParts.user c.args.self.now (data_of c.args.ctx.now) read c.satisfies_law.ensures)
     _ (FromSource-one _ _)
 
 pub returns-in-Ok-clause-origins : goal.returns-in-Ok-clause-origins
@@ -35,11 +35,11 @@ pub returns-in-Ok-clause-stays : goal.returns-in-Ok-clause-stays
 returns-in-Ok-clause-stays g c = λ read. answer_stays _ _
 
 pub returns-in-Err-clause-one : goal.returns-in-Err-clause-one
-returns-in-Err-clause-one g c = λ read. has_one_answer _ (over-lawful g.E.OwnParts.registered g.E.OwnParts.own c.args.self.now (data_of c.args.ctx.now) read c.keeps_law.ensures)
+returns-in-Err-clause-one g c = λ read. has_one_answer _ (over-lawful g.E.UserParts.registered g.E.UserParts.user c.args.self.now (data_of c.args.ctx.now) read c.satisfies_law.ensures)
     _ (FromSource-one _ _)
 
-pub returns-in-Err-clause-alike : goal.returns-in-Err-clause-alike
-returns-in-Err-clause-alike g c = λ read. two_runs _ (over-lawful g.E.OwnParts.registered g.E.OwnParts.own c.args.self.now (data_of c.args.ctx.now) read c.keeps_law.ensures)
+pub returns-in-Err-clause-agree : goal.returns-in-Err-clause-agree
+returns-in-Err-clause-agree g c = λ read. two_runs _ (over-lawful g.E.UserParts.registered g.E.UserParts.user c.args.self.now (data_of c.args.ctx.now) read c.satisfies_law.ensures)
     _ (FromSource-one _ _)
 
 pub returns-in-Err-clause-origins : goal.returns-in-Err-clause-origins

@@ -3,12 +3,12 @@ use Rattle.handlebars_base.specs.TemplateRefusals.{template_refusal_of}
 use Rattle.handlebars_template.specs.TreeView.{tree_view}
 use Rattle.handlebars.specs.View.{options_of}
 use Rattle.handlebars.proofs.Asks.{asks-nothing}
-use Rattle.handlebars.proofs.MarkupRead.{told-by-source}
-use Rattle.handlebars.proofs.OverLaws.{source-fails-at-file, source-refused}
+use Rattle.handlebars.proofs.MarkupRead.{reported-by-source}
+use Rattle.handlebars.proofs.OverLaws.{source-fails-at-file, source-rejected}
 use Rattle.handlebars.proofs.registry.RegistryOf.template_markup_faults.Goals as goal
 
 pub returns-in_err-template-clause-err : goal.returns-in_err-template-clause-err
-returns-in_err-template-clause-err g c = source-refused _ _ _ _ _ _ (template_refusal_of c.in_err-template.field-0.0) c.from_residual.result
+returns-in_err-template-clause-err g c = source-rejected _ _ _ _ _ _ (template_refusal_of c.in_err-template.field-0.0) c.from_residual.result
     c.in_err-template.ensures.err c.from_residual.ensures.1
 
 pub returns-in_err-template-clause-asks : goal.returns-in_err-template-clause-asks
@@ -27,7 +27,7 @@ returns-clause-ok g c =
     record {
       read = all.0;
       reads_all = all.1;
-      holds = told-by-source g.E.OwnParts.registered g.E.OwnParts.own c.args.self.now (options_of c.args.self.now) c.args.source.now
+      holds = reported-by-source g.E.UserParts.registered g.E.UserParts.user c.args.self.now (options_of c.args.self.now) c.args.source.now
           (tree_view c.in_ok-template.template) all.0 c.in_ok-read.read c.new-faults.result.items c.check_template.new.faults.items
           c.check_registered.new.faults.items found.0 c.in_ok-template.ensures.ok all.2 c.new-faults.ensures.items
           c.in_ok-check_template.ensures found.1 found.2;

@@ -1,4 +1,4 @@
-use Rattle.handlebars_meaning.specs.Answer.{is_stored, is_not}
+use Rattle.handlebars_semantics.specs.Answer.{is_stored, is_not}
 use Rattle.handlebars.proofs.AnswerLaws.{FromName-one}
 use Rattle.handlebars.proofs.Writing.{Writes-begun, writes_if}
 use Rattle.handlebars.proofs.registry.RegistryOf.write_named.Goals as goal

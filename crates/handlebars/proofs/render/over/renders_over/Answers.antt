@@ -2,7 +2,7 @@ use Rattle.std.proofs.Common.{ap, inl, inr}
 use Rattle.std.proofs.lemmas.Bool.{cases_Bool}
 use Rattle.handlebars_base.specs.Outputs.{Held}
 use Rattle.handlebars_expand.specs.View.{has_failed}
-use Rattle.handlebars.proofs.Texts.{gives_string, refuses_string}
+use Rattle.handlebars.proofs.Texts.{gives_string, string_fails}
 use Rattle.handlebars.proofs.render.over.renders_over.Goals as goal
 
 pub returns-in-Ok-clause-ok : goal.returns-in-Ok-clause-ok
@@ -12,4 +12,4 @@ returns-in-Ok-clause-ok g c = elim (cases_Bool (has_failed c.args.rc.now)) [
 ]
 
 pub returns-in-Err-clause-err : goal.returns-in-Err-clause-err
-returns-in-Err-clause-err g c ready other = refuses_string _ _ _ c.in-Err.e (λ cause is. is) other (c.in-Err.ensures.renders ready)
+returns-in-Err-clause-err g c ready other = string_fails _ _ _ c.in-Err.e (λ cause is. is) other (c.in-Err.ensures.renders ready)

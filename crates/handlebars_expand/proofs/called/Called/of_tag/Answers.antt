@@ -1,7 +1,7 @@
 use Rattle.std.proofs.Common.{ap, ◌∙◌, option_map}
 use Rattle.handlebars_template.specs.Tree.{decorator_body}
 use Rattle.handlebars_template.specs.TreeView.{decorator_view}
-use Rattle.handlebars_meaning.specs.Inclusion.{joined_indent}
+use Rattle.handlebars_semantics.specs.Inclusion.{joined_indent}
 use Rattle.handlebars_expand.specs.View.{called_view}
 use Rattle.handlebars_expand.proofs.Tags.{indent-seen, tag_of}
 use Rattle.handlebars_expand.proofs.called.Called.of_tag.Goals as goal

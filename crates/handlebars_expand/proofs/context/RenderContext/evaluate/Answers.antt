@@ -1,6 +1,6 @@
 use Rattle.handlebars_base.specs.Scoped.{found_of}
-use Rattle.handlebars_expand.proofs.Evaluates.{evaluates_nowhere, evaluates_to, evaluation_refused}
-use Rattle.handlebars_expand.proofs.Lent.{nodes-empty}
+use Rattle.handlebars_expand.proofs.Evaluates.{evaluates_nowhere, evaluates_to, evaluation_failed}
+use Rattle.handlebars_expand.proofs.Borrowed.{nodes-empty}
 use Rattle.handlebars_expand.proofs.context.RenderContext.evaluate.Goals as goal
 
 pub returns-in_err-reference-clause-err : goal.returns-in_err-reference-clause-err
@@ -10,7 +10,7 @@ pub returns-clause-ok : goal.returns-clause-ok
 returns-clause-ok c = evaluates_to _ _ _ _ found_of _ _ c.in_ok-reference.ensures.ok (rw c.outside-bases.ensures.bases at (rw c.data.ensures.value at c.find.ensures.found))
 
 pub returns-clause-err : goal.returns-clause-err
-returns-clause-err c = evaluation_refused _ _ _ _ found_of _ _ c.in_ok-reference.ensures.ok (rw c.outside-bases.ensures.bases at (rw c.data.ensures.value at c.find.ensures.found))
+returns-clause-err c = evaluation_failed _ _ _ _ found_of _ _ c.in_ok-reference.ensures.ok (rw c.outside-bases.ensures.bases at (rw c.data.ensures.value at c.find.ensures.found))
 
 pub find-requires : goal.find-requires
 find-requires c = record { nodes = nodes-empty _ _ c.outside-bases.ensures.nodes }

@@ -1,5 +1,5 @@
 use Rattle.std.proofs.Common.{ap}
-use Rattle.handlebars_helpers.specs.OwnView.{local_of}
+use Rattle.handlebars_helpers.specs.UserView.{local_of}
 use Rattle.handlebars_expand.specs.View.{state_of}
 use Rattle.handlebars_expand.proofs.Changed.{by_text-put}
 use Rattle.handlebars_expand.proofs.context.internal.bind_helper.Goals as goal

@@ -9,7 +9,7 @@ invariant_of-self g c = record {
   marked = marked-inserted c.insert.result c.args.self.now.by_name c.insert.new.self c.args.name c.args.entry c.mark.new.marks
       c.insert.ensures.updates c.insert.ensures.err
       (ap (is_marked c.mark.new.marks) (sym c.deref.ensures) ∙ c.mark.ensures.marked)
-      (λ name there. c.mark.ensures.kept name (c.args.self.now.marked name there));
+      (λ name there. c.mark.ensures.unchanged name (c.args.self.now.marked name there));
 }
 
 pub returns-clause-ok : goal.returns-clause-ok

@@ -1,6 +1,6 @@
 use Rattle.std.proofs.Common.{◌∙◌, ap, option_map}
 use Rattle.handlebars_base.specs.PathAndData.{path_and_data}
-use Rattle.handlebars_helpers.proofs.Pairs.{option_map-now, option_map-lookup}
+use Rattle.handlebars_helpers.proofs.Hash.{option_map-now, option_map-lookup}
 use Rattle.handlebars_helpers.proofs.view.Helper.hash_get.Goals as goal
 
 pub returns : goal.returns

@@ -1,5 +1,5 @@
 use Rattle.std.proofs.Common.{◌≡◌, ◌++◌, take}
-use Rattle.handlebars_scope.specs.WayView.{names_in}
+use Rattle.handlebars_scope.specs.ResolutionView.{names_in}
 use Rattle.handlebars_scope.proofs.context.full_path.push_names.Given as goal
 
 -- the names so far are added

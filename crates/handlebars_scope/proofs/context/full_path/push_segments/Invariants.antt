@@ -1,7 +1,7 @@
 use Rattle.std.proofs.Common.{◌≡◌, ◌++◌, drop}
 use Rattle.handlebars_base.specs.PathView.{segments_of}
 use Rattle.handlebars_scope.specs.Resolve.{names_of}
-use Rattle.handlebars_scope.specs.WayView.{names_in}
+use Rattle.handlebars_scope.specs.ResolutionView.{names_in}
 use Rattle.handlebars_scope.proofs.context.full_path.push_segments.Given as goal
 
 -- the names so far, and those of the segments that are left, are all

@@ -3,8 +3,8 @@ use Rattle.serde_json.specs.View.{view}
 use Rattle.handlebars_base.specs.Answers.{gives}
 use Rattle.handlebars_base.specs.PathView.{segments_of}
 use Rattle.handlebars_scope.specs.Resolve.{names_of, value_at}
-use Rattle.handlebars_scope.specs.WayView.{names_in}
-use Rattle.handlebars_scope.proofs.Ways.{value_at-append, value_at-on}
+use Rattle.handlebars_scope.specs.ResolutionView.{names_in}
+use Rattle.handlebars_scope.proofs.Resolutions.{value_at-append, value_at-on}
 use Rattle.handlebars_scope.proofs.context.members.enter.Goals as goal
 
 pub returns-in-Value-default-clause-reached : goal.returns-in-Value-default-clause-reached

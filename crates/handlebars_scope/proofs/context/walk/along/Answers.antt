@@ -3,8 +3,8 @@ use Rattle.serde_json.specs.View.{view}
 use Rattle.handlebars_base.specs.PathView.{segments_of}
 use Rattle.handlebars_scope.specs.Bases.{IsNode}
 use Rattle.handlebars_scope.specs.Resolve.{names_of}
-use Rattle.handlebars_scope.specs.WayView.{names_in}
-use Rattle.handlebars_scope.proofs.Ways.{value_at-on}
+use Rattle.handlebars_scope.specs.ResolutionView.{names_in}
+use Rattle.handlebars_scope.proofs.Resolutions.{value_at-on}
 use Rattle.handlebars_scope.proofs.context.walk.along.Goals as goal
 
 pub returns-in-Some : goal.returns-in-Some

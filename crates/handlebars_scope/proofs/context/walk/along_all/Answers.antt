@@ -2,8 +2,8 @@ use Rattle.std.proofs.Common.{◌≡◌, Some, rules}
 use Rattle.serde_json.specs.View.{view}
 use Rattle.handlebars_base.specs.Answers.{gives}
 use Rattle.handlebars_scope.specs.Resolve.{value_at}
-use Rattle.handlebars_scope.specs.WayView.{names_in}
-use Rattle.handlebars_scope.proofs.Ways.{value_at-append, value_at-on}
+use Rattle.handlebars_scope.specs.ResolutionView.{names_in}
+use Rattle.handlebars_scope.proofs.Resolutions.{value_at-append, value_at-on}
 use Rattle.handlebars_scope.proofs.context.walk.along_all.Goals as goal
 
 pub returns-in-Value-default : goal.returns-in-Value-default

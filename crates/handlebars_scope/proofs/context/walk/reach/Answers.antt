@@ -6,7 +6,7 @@ use Rattle.handlebars_base.specs.Scoped.{present_in}
 use Rattle.handlebars_scope.specs.Bases.{bases_of}
 use Rattle.handlebars_scope.specs.Resolve.{resolve}
 use Rattle.handlebars_scope.specs.ScopeView.{frames_of}
-use Rattle.handlebars_scope.specs.WayView.{reached_of}
+use Rattle.handlebars_scope.specs.ResolutionView.{reached_of}
 use Rattle.handlebars_scope.proofs.Bases.{resolve-variable}
 use Rattle.handlebars_scope.proofs.context.walk.reach.Goals as goal
 

@@ -1,5 +1,5 @@
 use Rattle.std.proofs.Common.{◌∙◌, sym}
-use Rattle.handlebars_template.proofs.LineCalls.{identifier}
+use Rattle.handlebars_template.proofs.ExpressionCalls.{identifier}
 use Rattle.handlebars_template.proofs.template.build.is_name.Goals as goal
 
 pub returns-then-not-is_empty : goal.returns-then-not-is_empty

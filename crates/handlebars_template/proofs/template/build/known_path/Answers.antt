@@ -1,8 +1,8 @@
 use Rattle.std.proofs.Common.{◌∙◌, Some, refl, sym, ap}
 use Rattle.handlebars_base.specs.PathView.{reference_of}
 use Rattle.handlebars_base.proofs.PathShapes.{path_known}
-use Rattle.handlebars_template.proofs.LinesBuilt.{path_of-none}
-use Rattle.handlebars_template.proofs.LineCalls.{path_of-name}
+use Rattle.handlebars_template.proofs.ExpressionsBuilt.{path_of-none}
+use Rattle.handlebars_template.proofs.ExpressionCalls.{path_of-name}
 use Rattle.handlebars_template.proofs.template.build.known_path.Goals as goal
 
 pub returns-then-is_name : goal.returns-then-is_name

@@ -1,6 +1,6 @@
 use Rattle.std.proofs.Common.{◌≡◌, List, ◌++◌, map, take}
-use Rattle.handlebars_template.specs.TreeView.{element_view, pairs_view, param_view}
-use Rattle.handlebars_template.proofs.Pairs.{Entry}
+use Rattle.handlebars_template.specs.TreeView.{element_view, hash_view, param_view}
+use Rattle.handlebars_template.proofs.Hash.{HashEntry}
 use Rattle.handlebars_template.proofs.template.copy.+copy.Given as goal
 
 abbrev pub invariant-copied_elements-elements : goal.invariant-copied_elements-elements
@@ -9,6 +9,6 @@ invariant-copied_elements-elements l = map element_view l.copies.items ≡ map e
 abbrev pub invariant-copied_parameters-parameters : goal.invariant-copied_parameters-parameters
 invariant-copied_parameters-parameters l = map param_view l.copies.items ≡ map param_view (take l.parameter-index l.parameter-items)
 
-abbrev pub invariant-copied_pairs-pairs : goal.invariant-copied_pairs-pairs
-invariant-copied_pairs-pairs l =
-    (done : List Entry) × (l.pairs.entries ≡ done ++ l.key-iterator) × (pairs_view l.copies.entries ≡ pairs_view done)
+abbrev pub invariant-copied_hash-hash : goal.invariant-copied_hash-hash
+invariant-copied_hash-hash l =
+    (done : List HashEntry) × (l.hash.entries ≡ done ++ l.key-iterator) × (hash_view l.copies.entries ≡ hash_view done)

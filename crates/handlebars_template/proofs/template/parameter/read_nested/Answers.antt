@@ -15,15 +15,15 @@ returns-then-depth-ge-MAX_NESTING c opens =
 pub returns-in_default-2 : goal.returns-in_default-2
 returns-in_default-2 c opens =
     parses_lost c.args.inside.now c.in-Some.depth (rw c.in-Some.is at c.in_ok-depth.ensures)
-    (rw c.behind_white-line.ensures at (rw c.in_default-2.is at c.in_ok-built.ensures))
+    (rw c.after_white-expression.ensures at (rw c.in_default-2.is at c.in_ok-built.ensures))
 
-pub returns-in-Some-refused : goal.returns-in-Some-refused
-returns-in-Some-refused c opens =
-    parses_worthless c.args.text.now c.args.inside.now c.in-Some-refused.raw.now c.in-Some.depth c.in-Some-2.built opens (rw c.in-Some.is at c.in_ok-depth.ensures) (omega (arith, c.if-depth-ge-MAX_NESTING.false))
-    (rw c.behind_white-line.ensures at (rw c.in-Some-2.is at c.in_ok-built.ensures)) (ap (option_map (λ t. t.now)) c.in-Some-refused.is)
+pub returns-in-Some-rejected : goal.returns-in-Some-rejected
+returns-in-Some-rejected c opens =
+    parses_worthless c.args.text.now c.args.inside.now c.in-Some-rejected.raw.now c.in-Some.depth c.in-Some-2.built opens (rw c.in-Some.is at c.in_ok-depth.ensures) (omega (arith, c.if-depth-ge-MAX_NESTING.false))
+    (rw c.after_white-expression.ensures at (rw c.in-Some-2.is at c.in_ok-built.ensures)) (ap (option_map (λ t. t.now)) c.in-Some-rejected.is)
 
 pub returns : goal.returns
 returns c opens =
     parses_call c.args.text.now c.args.inside.now c.in-Some.depth c.in-Some-2.built _ opens (rw c.in-Some.is at c.in_ok-depth.ensures) (omega (arith, c.if-depth-ge-MAX_NESTING.false))
-    (rw c.behind_white-line.ensures at (rw c.in-Some-2.is at c.in_ok-built.ensures)) (ap (option_map (λ t. t.now)) c.in_default-refused.is)
+    (rw c.after_white-expression.ensures at (rw c.in-Some-2.is at c.in_ok-built.ensures)) (ap (option_map (λ t. t.now)) c.in_default-rejected.is)
     (param_view-Subexpression c.in_ok-call.call ∙ ap subexpression c.in_ok-call.ensures)

@@ -1,4 +1,4 @@
--- `and` picks the text with the bytes behind it. Assumes `Logic`.
+-- `and` picks the text with the bytes after it. Assumes `Logic`.
 use Rattle.std.proofs.Common.{List, [], ◌∷◌, ◌++◌, length, refl}
 use seplogic.Ra.Ura.{Ura}
 use mir.Syntax.{Fn}
@@ -26,7 +26,7 @@ use denote.Triple.Entry.{alive}
 use denote.Triple.Spec.{Meets, triple_of}
 use denote.Triple.Table.{entered}
 use denote.Triple.Walked.{says, Stays, stay_dropped, walk_of, ends_at, walk_Meets, Goes-dropped}
-use Rattle.handlebars.proofs.TakenWalks.{none, none_made}
+use Rattle.handlebars.proofs.TakenWalks.{empty_struct, none_made}
 use Rattle.handlebars.specs.contracts.output.taken.Taken as Taken
 use Rattle.handlebars.specs.contracts.output.taken.Taken.and as F
 use Rattle.handlebars.specs.contracts.output.taken.Taken.and.Key.{name as #self}
@@ -70,7 +70,7 @@ module _ {M : Type 1} {𝓤 : Ura M} (𝓛 : Logic 𝓤) (at_mem : Memory → SP
         sets ! (agg ! (no_more !)) refl (tt, tt) $
         nothing ! $ none_made ! $ fjoin ! $
         returns ! (look_at ! 0 refl) $ free_all ! refl $
-        suffices ! _ (ends_at 𝓛 ended stayed held z none made (tt, (tt, tt)) (tt, (tt, tt))) $ says ! refl $
+        suffices ! _ (ends_at 𝓛 ended stayed held z empty_struct made (tt, (tt, tt)) (tt, (tt, tt))) $ says ! refl $
         nothing ! $ nothing ! $ fjoin ! $ nothing ! $ fjoin ! $ move ! (2 ∷ 0 ∷ 1 ∷ []) $ done !)))))
 
   meets : (𝓣 : Tables 𝓤 H) → Meets 𝓛 ended.signature (WpFn 𝓤 H 𝓣.C 𝓣.Λ function) (closing 𝓛 ended held)

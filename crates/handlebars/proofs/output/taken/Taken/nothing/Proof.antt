@@ -23,7 +23,7 @@ use denote.Triple.Entry.{alive}
 use denote.Triple.Spec.{Meets, triple_of}
 use denote.Triple.Table.{entered}
 use denote.Triple.Walked.{says, Stays, walk_of, ends_at, walk_Meets}
-use Rattle.handlebars.proofs.TakenWalks.{none, none_made}
+use Rattle.handlebars.proofs.TakenWalks.{empty_struct, none_made}
 use Rattle.handlebars.specs.contracts.output.taken.Taken as Taken
 use Rattle.handlebars.specs.contracts.output.taken.Taken.nothing as F
 use Rattle.handlebars.specs.contracts.output.taken.Taken.nothing.Key.{name as #self}
@@ -63,7 +63,7 @@ module _ {M : Type 1} {𝓤 : Ura M} (𝓛 : Logic 𝓤) (at_mem : Memory → SP
         sets ! (agg ! (no_more !)) refl (tt, tt) $
         nothing ! $ none_made ! $ fjoin ! $
         returns ! (look_at ! 0 refl) $ free_all ! refl $
-        suffices ! _ (ends_at 𝓛 ended stayed held z none made tt tt) $ says ! refl $
+        suffices ! _ (ends_at 𝓛 ended stayed held z empty_struct made tt tt) $ says ! refl $
         nothing ! $ move ! (2 ∷ 0 ∷ 1 ∷ []) $ done !)
 
   meets : (𝓣 : Tables 𝓤 H) → Meets 𝓛 ended.signature (WpFn 𝓤 H 𝓣.C 𝓣.Λ function) (closing 𝓛 ended held)

@@ -6,13 +6,13 @@ use Rattle.handlebars_base.proofs.PathLinks.{loop-none, loop-shorter, loop-rest,
 use Rattle.handlebars_base.proofs.json.path.links.push_links.Goals as goal
 
 pub loop-found-smaller : goal.loop-found-smaller
-loop-found-smaller c = loop-shorter c.loop-found.before_up c.loop-found.rest.now _ c.in-Some.behind.now c.in-Some.ensures
+loop-found-smaller c = loop-shorter c.loop-found.before_up c.loop-found.rest.now _ c.in-Some.after.now c.in-Some.ensures
 
 pub loop-found-preserved : goal.loop-found-preserved
 loop-found-preserved c = (
   search rules,
-  rw (c.is_up-before_up.ensures) (sym (loop-rest c.loop-found.before_up c.loop-found.rest.now _ c.in-Some.behind.now c.in-Some.ensures) ∙ c.loop-found.invariant.1),
-  rw (c.in_ok-push.ensures, c.is_up-before_up.ensures) (loop-segments (segments_of c.loop-found.segs.items) c.loop-found.before_up c.loop-found.rest.now _ c.in-Some.behind.now c.in-Some.ensures ∙ c.loop-found.invariant.2),
+  rw (c.is_up-before_up.ensures) (sym (loop-rest c.loop-found.before_up c.loop-found.rest.now _ c.in-Some.after.now c.in-Some.ensures) ∙ c.loop-found.invariant.1),
+  rw (c.in_ok-push.ensures, c.is_up-before_up.ensures) (loop-segments (segments_of c.loop-found.segs.items) c.loop-found.before_up c.loop-found.rest.now _ c.in-Some.after.now c.in-Some.ensures ∙ c.loop-found.invariant.2),
 )
 
 pub returns-clause-segments : goal.returns-clause-segments

@@ -4,7 +4,7 @@ use Rattle.serde_json.specs.View.{items_view, members_view}
 use Rattle.handlebars_base.specs.Equal.{items_equal, members_equal}
 use Rattle.handlebars_base.proofs.json.value.equality.+equal.Given as goal
 
--- what is left on both sides is equal just where the whole is
+-- what is left on both sides is equal exactly if the whole is
 abbrev pub invariant-items_equal-items : goal.invariant-items_equal-items
 invariant-items_equal-items l =
     items_equal (items_view (drop l.item-index l.item-items)) (items_view (iter_rest l.rest))

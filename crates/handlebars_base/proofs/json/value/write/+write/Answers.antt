@@ -1,23 +1,23 @@
 use Rattle.std.proofs.Common.{sym, false, true, rules}
 use Rattle.serde_json.specs.View.{items_view}
 use Rattle.handlebars_base.proofs.ShownValues.{shown-null, shown-bool, shown-object, shown-array, shown-items_from, shown-items_end}
-use Rattle.handlebars_base.proofs.Writes.{whole-nil, written_is, begins, left_is, goes_on, fails, ends, ends_here}
+use Rattle.handlebars_base.proofs.Writes.{whole-nil, written_is, begins, left_is, next_write, failed_write, last_write, ends_here}
 use Rattle.handlebars_base.proofs.json.value.write.+write.Goals as goal
 
 pub write_array-returns-in_err-write-clause-written : goal.write_array-returns-in_err-write-clause-written
 write_array-returns-in_err-write-clause-written g t c =
     let left = left_is (shown-array c.args.escapes (items_view c.args.items.now.items)) (begins _ _) in
-    fails _ _ c.from_residual.ensures.0 left c.in_err-write.ensures.written
+    failed_write _ _ c.from_residual.ensures.0 left c.in_err-write.ensures.written
 
 pub write_array-returns-in_err-write_items-clause-written : goal.write_array-returns-in_err-write_items-clause-written
 write_array-returns-in_err-write_items-clause-written g t c =
     let left = left_is (shown-array c.args.escapes (items_view c.args.items.now.items)) (begins _ _) in
-    fails _ _ c.from_residual-in_err-write_items.ensures.0 (goes_on left c.in_ok-write.ensures.written) c.in_err-write_items.ensures.written
+    failed_write _ _ c.from_residual-in_err-write_items.ensures.0 (next_write left c.in_ok-write.ensures.written) c.in_err-write_items.ensures.written
 
 pub write_array-returns-clause-written : goal.write_array-returns-clause-written
 write_array-returns-clause-written g t c =
     let left = left_is (shown-array c.args.escapes (items_view c.args.items.now.items)) (begins _ _) in
-    ends _ _ (goes_on (goes_on left c.in_ok-write.ensures.written) c.in_ok-write_items.ensures.written) c.write-2.ensures.written
+    last_write _ _ (next_write (next_write left c.in_ok-write.ensures.written) c.in_ok-write_items.ensures.written) c.write-2.ensures.written
 
 pub write_value-returns-in-Null-clause-written : goal.write_value-returns-in-Null-clause-written
 write_value-returns-in-Null-clause-written g t c = rw (shown-null c.args.escapes c.args.value.now c.in-Null.is) (whole-nil _)
@@ -38,21 +38,21 @@ pub write_items-returns-in_err-write_separator-clause-written : goal.write_items
 write_items-returns-in_err-write_separator-clause-written g t c =
     let l = c.loop-item in
     let left = left_is (shown-items_from c.args.escapes l.first _ l.item-index _ c.loop-item-test.true c.item-item.is) l.invariant in
-    rw (sym c.deref-item-items.ensures.value) (fails _ _ c.from_residual.ensures.0 left c.in_err-write_separator.ensures.written)
+    rw (sym c.deref-item-items.ensures.value) (failed_write _ _ c.from_residual.ensures.0 left c.in_err-write_separator.ensures.written)
 
 pub write_items-returns-in_err-write_value-clause-written :
     goal.write_items-returns-in_err-write_value-clause-written
 write_items-returns-in_err-write_value-clause-written g t c =
     let l = c.loop-item in
     let left = left_is (shown-items_from c.args.escapes l.first _ l.item-index _ c.loop-item-test.true c.item-item.is) l.invariant in
-    rw (sym c.deref-item-items.ensures.value) (fails _ _ c.from_residual-in_err-write_value.ensures.0
-    (goes_on left c.in_ok-write_separator.ensures.written) c.in_err-write_value.ensures.written)
+    rw (sym c.deref-item-items.ensures.value) (failed_write _ _ c.from_residual-in_err-write_value.ensures.0
+    (next_write left c.in_ok-write_separator.ensures.written) c.in_err-write_value.ensures.written)
 
 pub write_items-loop-item-preserved : goal.write_items-loop-item-preserved
 write_items-loop-item-preserved g t c =
     let l = c.loop-item in
     let left = left_is (shown-items_from c.args.escapes l.first _ l.item-index _ c.loop-item-test.true c.item-item.is) l.invariant in
-    goes_on (goes_on left c.in_ok-write_separator.ensures.written) c.in_ok-write_value.ensures.written
+    next_write (next_write left c.in_ok-write_separator.ensures.written) c.in_ok-write_value.ensures.written
 
 pub write_items-returns-clause-written : goal.write_items-returns-clause-written
 write_items-returns-clause-written g t c =

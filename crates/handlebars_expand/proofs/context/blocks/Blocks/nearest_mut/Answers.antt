@@ -1,6 +1,6 @@
 use Rattle.handlebars_expand.specs.Bare.{bare-nearest}
 use Rattle.handlebars_expand.proofs.Bare.{nearest-frame}
-use Rattle.handlebars_expand.proofs.LentBlocks.{blocks-same, read_of-same}
+use Rattle.handlebars_expand.proofs.BorrowedBlocks.{blocks-same, read_of-same}
 use Rattle.handlebars_expand.proofs.context.blocks.Blocks.nearest_mut.Goals as goal
 
 pub returns : goal.returns

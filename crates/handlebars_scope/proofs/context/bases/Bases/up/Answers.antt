@@ -5,19 +5,19 @@ use Rattle.handlebars_scope.proofs.context.bases.Bases.up.Goals as goal
 
 pub returns-then-left-eq0-clause-base : goal.returns-then-left-eq0-clause-base
 returns-then-left-eq0-clause-base c =
-    up-here _ (ap bases_of c.in-Block.is ∙ bases_of-Block c.in-Block.lent c.in-Block.outer) c.if-left-eq0.true
+    up-here _ (ap bases_of c.in-Block.is ∙ bases_of-Block c.in-Block.borrowed c.in-Block.outer) c.if-left-eq0.true
     ∙ c.loop-here.invariant.0
 
 pub returns-then-left-eq0-clause-node : goal.returns-then-left-eq0-clause-node
 returns-then-left-eq0-clause-node c =
-    up-here _ (ap nodes_of c.in-Block.is ∙ nodes_of-Block c.in-Block.lent c.in-Block.outer) c.if-left-eq0.true
+    up-here _ (ap nodes_of c.in-Block.is ∙ nodes_of-Block c.in-Block.borrowed c.in-Block.outer) c.if-left-eq0.true
     ∙ c.loop-here.invariant.1
 
 pub loop-here-preserved : goal.loop-here-preserved
 loop-here-preserved c = (
-  up-further _ (ap bases_of c.in-Block.is ∙ bases_of-Block c.in-Block.lent c.in-Block.outer) c.if-left-eq0.false
+  up-further _ (ap bases_of c.in-Block.is ∙ bases_of-Block c.in-Block.borrowed c.in-Block.outer) c.if-left-eq0.false
       ∙ c.loop-here.invariant.0,
-  up-further _ (ap nodes_of c.in-Block.is ∙ nodes_of-Block c.in-Block.lent c.in-Block.outer) c.if-left-eq0.false
+  up-further _ (ap nodes_of c.in-Block.is ∙ nodes_of-Block c.in-Block.borrowed c.in-Block.outer) c.if-left-eq0.false
       ∙ c.loop-here.invariant.1,
 )
 

@@ -2,7 +2,7 @@ use Rattle.std.proofs.Common.{◌≡◌, ◌∙◌, ◌&&◌, Bool, true, false,
 use Rattle.std.specs.Prelude.{◌==◌}
 use Rattle.std.specs.BTreeMap.{btree_map_len}
 use Rattle.std.proofs.lemmas.Bool.Decides.{same_from_decides, Decides-eqb}
-use Rattle.handlebars_template.proofs.LinesBuilt.{lacks_arguments-view}
+use Rattle.handlebars_template.proofs.ExpressionsBuilt.{lacks_arguments-view}
 use Rattle.handlebars_template.proofs.template.arguments.Arguments.is_empty.Goals as goal
 
 pub returns-then-is_empty : goal.returns-then-is_empty

@@ -1,0 +1,49 @@
+//! Rendering a template to an output that is given each piece.
+
+ghost use Rattle.handlebars_template.specs.TreeView.{tree_view};
+ghost use Rattle.handlebars_scope.specs.Contexts.{data_of};
+ghost use Rattle.handlebars.specs.Calls.{BeginsWith};
+ghost use Rattle.handlebars.specs.Files.{tree_in};
+ghost use Rattle.handlebars.specs.Over.{setting_with};
+ghost use Rattle.handlebars.specs.PieceCalls.{EmitsPieces};
+
+use crate::registry::RegistryOf;
+use crate::render::logging::Logging;
+use handlebars_base::error::RenderError;
+use handlebars_helpers::entries::UserParts;
+use handlebars_render::entry::render_pieces_into;
+use handlebars_render::environment::outside;
+use handlebars_render::pieces::{Location, PieceOutput};
+use handlebars_scope::context::Context;
+use handlebars_scope::context::bases::Bases;
+use handlebars_template::template::Template;
+use log::Log;
+use std::collections::BTreeMap;
+
+/// Renders a template from the first state on, with the trees that were read instead of those that are registered under
+/// the same names, and emits each piece to the output.
+pub(crate) fn emit_template<E: UserParts, L: Log, O: PieceOutput>(
+    registry: &RegistryOf<E>,
+    template: &Template,
+    read: &BTreeMap<String, Template>,
+    ctx: &Context,
+    log: &L,
+    out: &mut O,
+) -> Result<(), RenderError>
+    ensures { EmitsPieces (setting_with E.registered E.user (tree_in read.now) registry.now (data_of ctx.now))
+        (BeginsWith (tree_view template.now)) O.may_give (O.emitted out.old) (O.emitted out.new) result }
+{
+    registry.entries.satisfies_law();
+    let mut rc = registry.first_context(template.name.as_ref())?;
+    let parts = &Logging {
+        registry,
+        read,
+        log,
+    };
+    let location = Location::first();
+    let environment = outside(registry.alloc, parts, ctx, &Bases::Outside, &location);
+    match render_pieces_into(template, &environment, &mut rc, out) {
+        Ok(()) => Ok(()),
+        Err(e) => Err(e.into_error()),
+    }
+}

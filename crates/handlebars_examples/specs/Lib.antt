@@ -1,0 +1,13 @@
+pub mod SourceExamples
+pub mod Examples
+pub mod ScopeExamples
+pub mod HelperExamples
+pub mod SectionExamples
+pub mod UserExamples
+pub mod DecoratorExamples
+pub mod ActionExamples
+pub mod InclusionExamples
+pub mod CapturedExamples
+pub mod InclusionSources
+pub mod PieceExamples
+pub mod MarkupExamples

@@ -1,0 +1,12 @@
+use Rattle.std.proofs.Common.{length, ◌-◌, ◌≡◌, ◌<◌, ◌≤◌, ℕ, get_or, true}
+use Rattle.handlebars_expressions.specs.Literal.{continues_literal}
+use Rattle.handlebars_expressions.proofs.marks.run_len.Given as goal
+
+abbrev pub invariant-loop-n : goal.invariant-loop-n
+invariant-loop-n l = record {
+  within : l.n ≤ length l.bytes;
+  pass : (k : ℕ) → k < l.n → continues_literal (get_or l.bytes k 0) ≡ true;
+}
+
+abbrev pub decreases-loop-n : goal.decreases-loop-n
+decreases-loop-n l = length l.bytes - l.n

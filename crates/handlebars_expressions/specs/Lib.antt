@@ -1,0 +1,17 @@
+pub mod Runs
+pub mod Literal
+pub mod LiteralReading
+pub mod LiteralView
+pub mod LiteralValue
+pub mod LiteralValueReading
+pub mod CommonJson
+pub mod Laws
+pub mod Parameter
+pub mod CloseName
+pub mod Binding
+pub mod BindingView
+pub mod Expression
+pub mod ExpressionReading
+pub mod ExpressionView
+pub mod ExpressionLaws
+pub mod Alone

@@ -1,6 +1,0 @@
-use Rattle.std.proofs.Common.{◌∙◌}
-use Rattle.handlebars_helpers.proofs.Sizes.{length-member_count}
-use Rattle.handlebars_helpers.proofs.each_turns.state.Turns.of_members.Goals as goal
-
-pub returns : goal.returns
-returns c = rw (c.iter.ensures.rest, c.len.ensures.len ∙ length-member_count c.args.members.now.entries)

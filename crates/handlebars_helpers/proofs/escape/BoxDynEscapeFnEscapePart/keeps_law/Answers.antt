@@ -1,4 +1,0 @@
-use Rattle.handlebars_helpers.proofs.escape.BoxDynEscapeFnEscapePart.keeps_law.Goals as goal
-
-pub returns : goal.returns
-returns g c = λ b. (g.dyn-1-met b.vtable).0.one_escaped b.value

@@ -1,5 +1,0 @@
-use Rattle.handlebars_lines.proofs.Bindings.{one_binding}
-use Rattle.handlebars_lines.proofs.laws.one_binding.Goals as goal
-
-pub returns : goal.returns
-returns c = one_binding

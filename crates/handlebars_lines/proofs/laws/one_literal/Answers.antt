@@ -1,5 +1,0 @@
-use Rattle.handlebars_lines.proofs.LiteralsFound.{one_literal}
-use Rattle.handlebars_lines.proofs.laws.one_literal.Goals as goal
-
-pub returns : goal.returns
-returns c = one_literal

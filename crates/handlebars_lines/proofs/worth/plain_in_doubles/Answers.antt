@@ -1,7 +1,0 @@
-use Rattle.std.proofs.Common.{sym, ◌∙◌}
-use Rattle.handlebars_lines.proofs.CommonJson.{worth-double}
-use Rattle.handlebars_lines.proofs.worth.plain_in_doubles.Goals as goal
-
-pub returns-then-is_plain : goal.returns-then-is_plain
-returns-then-is_plain c =
-    worth-double c.args.text.now c.in_ok-inner.inner.now c.in_ok-inner.ensures (sym c.is_plain.ensures ∙ c.if-is_plain.true)

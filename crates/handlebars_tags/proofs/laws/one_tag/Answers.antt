@@ -1,5 +1,0 @@
-use Rattle.handlebars_tags.proofs.OneTag.{one_tag}
-use Rattle.handlebars_tags.proofs.laws.one_tag.Goals as goal
-
-pub returns : goal.returns
-returns c = one_tag

@@ -1,9 +1,0 @@
-use Rattle.std.proofs.Common.{◌∙◌, ap}
-use Rattle.handlebars_base.specs.Bytes.{Text}
-use Rattle.handlebars_tags.specs.Trim.{trimmed_end}
-use Rattle.handlebars_tags.specs.TrimView.{edge_view}
-use Rattle.handlebars_tags.proofs.trim.trimmed.Goals as goal
-
-pub returns : goal.returns
-returns c options is =
-    rw is (c.trimmed_end.ensures ∙ ap (λ (t : Text). trimmed_end c.args.prevent_indent t (edge_view c.args.behind)) c.trimmed_start.ensures)
