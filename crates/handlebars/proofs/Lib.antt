@@ -1,5 +1,6 @@
 pub mod AnswerLaws
 pub mod Asks
+pub mod CallLaws
 pub mod DevLaws
 pub mod FileOrder
 pub mod Loaded

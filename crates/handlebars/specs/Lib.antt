@@ -8,5 +8,6 @@ pub mod Files
 pub mod Folder
 pub mod Dev
 pub mod Over
+pub mod AnswerLaws
 pub mod Readers
 pub mod Markup

@@ -8,8 +8,7 @@
 //! Templates that a rendering does not include do not affect it. Over data that is equal up to its texts, blind
 //! templates write the same markup. The logger is given the lines of `log`.
 
-ghost use Rattle.std.specs.Prelude.{◌≡◌, ◌≢◌, IfOk, IfErr, OnErr, List, None, Some, option_map, string_bytes, false};
-ghost use Rattle.serde_json.specs.Data.{Data};
+ghost use Rattle.std.specs.Prelude.{◌≡◌, ◌≢◌, IfOk, IfErr, OnErr, None, Some, option_map, string_bytes, false};
 ghost use Rattle.handlebars_base.specs.Answers.{IsRefusal};
 ghost use Rattle.handlebars_base.specs.Reasons.{out_of_memory, template_not_found, template_out_of_memory};
 ghost use Rattle.handlebars_base.specs.RenderRefusals.{plain_refusal, refusal_of, reason_in};
@@ -18,15 +17,14 @@ ghost use Rattle.handlebars_template.specs.Compile.{Compiles, compiled, rejected
 ghost use Rattle.handlebars_template.specs.TreeView.{tree_view};
 ghost use Rattle.handlebars_scope.specs.Contexts.{data_of};
 ghost use Rattle.handlebars_semantics.specs.Answer.{FromSource, FromName, GivesText};
-ghost use Rattle.handlebars_semantics.specs.Answer.{FailsWith, HasOneAnswer, AnswerHasOrigins};
-ghost use Rattle.handlebars_semantics.specs.Answer.{AnswerStays, NamedAnswerStays};
-ghost use Rattle.handlebars_markup.specs.TwoRuns.{HasFixedMarkup};
+ghost use Rattle.handlebars_semantics.specs.Answer.{FailsWith};
 ghost use Rattle.handlebars_semantics.specs.State.{first_state};
 ghost use Rattle.handlebars_expand.specs.View.{state_of, root_of, has_failed};
+ghost use Rattle.handlebars.specs.AnswerLaws.{ObeysLaws, ObeysLawsByName};
 ghost use Rattle.handlebars.specs.Calls.{BeginsWith, Converts, ConvertsOr, Writes};
 ghost use Rattle.handlebars.specs.Calls.{WritesConverted, WritesReading, WritesSource};
 ghost use Rattle.handlebars.specs.Dev.{AsksFor, HasRead, FailsWithFiles, FailsWithSource, stored_under};
-ghost use Rattle.handlebars.specs.Files.{Loaded, is_dev, overlaid_on, tree_in};
+ghost use Rattle.handlebars.specs.Files.{is_dev, overlaid_on, tree_in};
 ghost use Rattle.handlebars.specs.Over.{setting_under, setting_with};
 ghost use Rattle.handlebars.specs.View.{modes_of, options_of, stored_tree};
 
@@ -68,11 +66,7 @@ impl<E: UserParts> RegistryOf<E> {
             (files.new ≡ files.old) (λ d. FailsWithFiles R.reads self.now (Some name.now) files.old files.new
             (λ read f. FailsWith (setting_under E.registered E.user read self.now d)
             (FromName (stored_under read self.now) name.now) f) e)) }
-        ensures one { (d : Data) (read : List Loaded) → HasOneAnswer (setting_under E.registered E.user read self.now d)
-            (FromName (stored_under read self.now) name.now) }
-        ensures origins { (d : Data) (read : List Loaded)
-            → AnswerHasOrigins (setting_under E.registered E.user read self.now d)
-            (FromName (stored_under read self.now) name.now) }
+        ensures laws { ObeysLawsByName E.registered E.user self.now name.now }
         ensures asks { AsksFor R.reads self.now (Some name.now) files.old files.new }
         ensures unread { is_dev self.now ≡ false → files.new ≡ files.old }
     {
@@ -107,17 +101,7 @@ impl<E: UserParts> RegistryOf<E> {
             → FailsWithFiles R.reads self.now (Some name.now) files.old files.new
             (λ read f. FailsWith (setting_under E.registered E.user read self.now (data_of ctx.now))
             (FromName (stored_under read self.now) name.now) f) e) }
-        ensures one { (read : List Loaded)
-            → HasOneAnswer (setting_under E.registered E.user read self.now (data_of ctx.now))
-            (FromName (stored_under read self.now) name.now) }
-        ensures origins { (read : List Loaded)
-            → AnswerHasOrigins (setting_under E.registered E.user read self.now (data_of ctx.now))
-            (FromName (stored_under read self.now) name.now) }
-        ensures stays { (read : List Loaded)
-            → NamedAnswerStays (setting_under E.registered E.user read self.now (data_of ctx.now)) name.now }
-        ensures agree { (read : List Loaded)
-            → HasFixedMarkup (setting_under E.registered E.user read self.now (data_of ctx.now))
-            (FromName (stored_under read self.now) name.now) }
+        ensures laws { ObeysLawsByName E.registered E.user self.now name.now }
         ensures asks { AsksFor R.reads self.now (Some name.now) files.old files.new }
         ensures unread { is_dev self.now ≡ false → files.new ≡ files.old }
     {
@@ -152,11 +136,7 @@ impl<E: UserParts> RegistryOf<E> {
             (λ read. Writes (setting_under E.registered E.user read self.now d)
             (FromName (stored_under read self.now) name.now)))
             (W.contents writer.old) (W.contents writer.new) result }
-        ensures one { (d : Data) (read : List Loaded) → HasOneAnswer (setting_under E.registered E.user read self.now d)
-            (FromName (stored_under read self.now) name.now) }
-        ensures origins { (d : Data) (read : List Loaded)
-            → AnswerHasOrigins (setting_under E.registered E.user read self.now d)
-            (FromName (stored_under read self.now) name.now) }
+        ensures laws { ObeysLawsByName E.registered E.user self.now name.now }
         ensures asks { AsksFor R.reads self.now (Some name.now) files.old files.new }
         ensures unread { is_dev self.now ≡ false → files.new ≡ files.old }
     {
@@ -184,17 +164,7 @@ impl<E: UserParts> RegistryOf<E> {
             (λ read. Writes (setting_under E.registered E.user read self.now (data_of ctx.now))
             (FromName (stored_under read self.now) name.now))
             (W.contents writer.old) (W.contents writer.new) result }
-        ensures one { (read : List Loaded)
-            → HasOneAnswer (setting_under E.registered E.user read self.now (data_of ctx.now))
-            (FromName (stored_under read self.now) name.now) }
-        ensures origins { (read : List Loaded)
-            → AnswerHasOrigins (setting_under E.registered E.user read self.now (data_of ctx.now))
-            (FromName (stored_under read self.now) name.now) }
-        ensures stays { (read : List Loaded)
-            → NamedAnswerStays (setting_under E.registered E.user read self.now (data_of ctx.now)) name.now }
-        ensures agree { (read : List Loaded)
-            → HasFixedMarkup (setting_under E.registered E.user read self.now (data_of ctx.now))
-            (FromName (stored_under read self.now) name.now) }
+        ensures laws { ObeysLawsByName E.registered E.user self.now name.now }
         ensures asks { AsksFor R.reads self.now (Some name.now) files.old files.new }
         ensures unread { is_dev self.now ≡ false → files.new ≡ files.old }
     {
@@ -267,11 +237,7 @@ impl<E: UserParts> RegistryOf<E> {
             (λ d. FailsWithSource R.reads self.now (options_of self.now) source.now files.old files.new
             (λ read f. FailsWith (setting_under E.registered E.user read self.now d)
             (FromSource (options_of self.now) source.now) f) e)) }
-        ensures one { (d : Data) (read : List Loaded) → HasOneAnswer (setting_under E.registered E.user read self.now d)
-            (FromSource (options_of self.now) source.now) }
-        ensures origins { (d : Data) (read : List Loaded)
-            → AnswerHasOrigins (setting_under E.registered E.user read self.now d)
-            (FromSource (options_of self.now) source.now) }
+        ensures laws { ObeysLaws E.registered E.user self.now source.now }
         ensures asks { AsksFor R.reads self.now None files.old files.new }
         ensures unread { is_dev self.now ≡ false → files.new ≡ files.old }
     {
@@ -312,18 +278,7 @@ impl<E: UserParts> RegistryOf<E> {
             (FromSource (options_of self.now) source.now) f) e) }
 
         // There is at most one such answer, and each of its pieces comes from a tree of the run and the data.
-        ensures one { (read : List Loaded)
-            → HasOneAnswer (setting_under E.registered E.user read self.now (data_of ctx.now))
-            (FromSource (options_of self.now) source.now) }
-        ensures origins { (read : List Loaded)
-            → AnswerHasOrigins (setting_under E.registered E.user read self.now (data_of ctx.now))
-            (FromSource (options_of self.now) source.now) }
-        ensures stays { (read : List Loaded)
-            → AnswerStays (setting_under E.registered E.user read self.now (data_of ctx.now))
-            (FromSource (options_of self.now) source.now) }
-        ensures agree { (read : List Loaded)
-            → HasFixedMarkup (setting_under E.registered E.user read self.now (data_of ctx.now))
-            (FromSource (options_of self.now) source.now) }
+        ensures laws { ObeysLaws E.registered E.user self.now source.now }
         ensures asks { AsksFor R.reads self.now None files.old files.new }
         ensures unread { is_dev self.now ≡ false → files.new ≡ files.old }
     {
@@ -352,11 +307,7 @@ impl<E: UserParts> RegistryOf<E> {
             (λ read. Writes (setting_under E.registered E.user read self.now d)
             (FromSource (options_of self.now) source.now)))
             (W.contents writer.old) (W.contents writer.new) result }
-        ensures one { (d : Data) (read : List Loaded) → HasOneAnswer (setting_under E.registered E.user read self.now d)
-            (FromSource (options_of self.now) source.now) }
-        ensures origins { (d : Data) (read : List Loaded)
-            → AnswerHasOrigins (setting_under E.registered E.user read self.now d)
-            (FromSource (options_of self.now) source.now) }
+        ensures laws { ObeysLaws E.registered E.user self.now source.now }
         ensures asks { AsksFor R.reads self.now None files.old files.new }
         ensures unread { is_dev self.now ≡ false → files.new ≡ files.old }
     {
@@ -384,18 +335,7 @@ impl<E: UserParts> RegistryOf<E> {
             (λ read. Writes (setting_under E.registered E.user read self.now (data_of ctx.now))
             (FromSource (options_of self.now) source.now))
             (W.contents writer.old) (W.contents writer.new) result }
-        ensures one { (read : List Loaded)
-            → HasOneAnswer (setting_under E.registered E.user read self.now (data_of ctx.now))
-            (FromSource (options_of self.now) source.now) }
-        ensures origins { (read : List Loaded)
-            → AnswerHasOrigins (setting_under E.registered E.user read self.now (data_of ctx.now))
-            (FromSource (options_of self.now) source.now) }
-        ensures stays { (read : List Loaded)
-            → AnswerStays (setting_under E.registered E.user read self.now (data_of ctx.now))
-            (FromSource (options_of self.now) source.now) }
-        ensures agree { (read : List Loaded)
-            → HasFixedMarkup (setting_under E.registered E.user read self.now (data_of ctx.now))
-            (FromSource (options_of self.now) source.now) }
+        ensures laws { ObeysLaws E.registered E.user self.now source.now }
         ensures asks { AsksFor R.reads self.now None files.old files.new }
         ensures unread { is_dev self.now ≡ false → files.new ≡ files.old }
     {

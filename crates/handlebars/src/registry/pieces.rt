@@ -3,14 +3,14 @@
 //! by the calls that return a text. What is emitted is what the definition says of the pieces of the one answer, in
 //! order; if the answer is an error, the pieces before it are emitted.
 
-ghost use Rattle.std.specs.Prelude.{◌≡◌, Some, None, List, false};
+ghost use Rattle.std.specs.Prelude.{◌≡◌, Some, None, false};
 ghost use Rattle.handlebars_template.specs.TreeView.{tree_view};
 ghost use Rattle.handlebars_scope.specs.Contexts.{data_of};
-ghost use Rattle.handlebars_semantics.specs.Answer.{AnswerHasOrigins, AnswerStays, FromName, FromSource, HasOneAnswer, NamedAnswerStays};
-ghost use Rattle.handlebars_markup.specs.TwoRuns.{HasFixedMarkup};
+ghost use Rattle.handlebars_semantics.specs.Answer.{FromName, FromSource};
+ghost use Rattle.handlebars.specs.AnswerLaws.{ObeysLaws, ObeysLawsByName};
 ghost use Rattle.handlebars.specs.Calls.{BeginsWith};
 ghost use Rattle.handlebars.specs.Dev.{AsksFor, stored_under};
-ghost use Rattle.handlebars.specs.Files.{Loaded, is_dev, overlaid_on, tree_in};
+ghost use Rattle.handlebars.specs.Files.{is_dev, overlaid_on, tree_in};
 ghost use Rattle.handlebars.specs.Over.{setting_under, setting_with};
 ghost use Rattle.handlebars.specs.PieceCalls.{EmitsPieces, EmitsReading, EmitsSource};
 ghost use Rattle.handlebars.specs.View.{options_of, stored_tree};
@@ -46,17 +46,7 @@ impl<E: UserParts> RegistryOf<E> {
             (λ read. EmitsPieces (setting_under E.registered E.user read self.now (data_of ctx.now))
             (FromName (stored_under read self.now) name.now) O.may_give)
             (O.emitted out.old) (O.emitted out.new) result }
-        ensures one { (read : List Loaded)
-            → HasOneAnswer (setting_under E.registered E.user read self.now (data_of ctx.now))
-            (FromName (stored_under read self.now) name.now) }
-        ensures origins { (read : List Loaded)
-            → AnswerHasOrigins (setting_under E.registered E.user read self.now (data_of ctx.now))
-            (FromName (stored_under read self.now) name.now) }
-        ensures stays { (read : List Loaded)
-            → NamedAnswerStays (setting_under E.registered E.user read self.now (data_of ctx.now)) name.now }
-        ensures agree { (read : List Loaded)
-            → HasFixedMarkup (setting_under E.registered E.user read self.now (data_of ctx.now))
-            (FromName (stored_under read self.now) name.now) }
+        ensures laws { ObeysLawsByName E.registered E.user self.now name.now }
         ensures asks { AsksFor R.reads self.now (Some name.now) files.old files.new }
         ensures unread { is_dev self.now ≡ false → files.new ≡ files.old }
     {
@@ -103,18 +93,7 @@ impl<E: UserParts> RegistryOf<E> {
             (λ read. EmitsPieces (setting_under E.registered E.user read self.now (data_of ctx.now))
             (FromSource (options_of self.now) source.now) O.may_give)
             (O.emitted out.old) (O.emitted out.new) result }
-        ensures one { (read : List Loaded)
-            → HasOneAnswer (setting_under E.registered E.user read self.now (data_of ctx.now))
-            (FromSource (options_of self.now) source.now) }
-        ensures origins { (read : List Loaded)
-            → AnswerHasOrigins (setting_under E.registered E.user read self.now (data_of ctx.now))
-            (FromSource (options_of self.now) source.now) }
-        ensures stays { (read : List Loaded)
-            → AnswerStays (setting_under E.registered E.user read self.now (data_of ctx.now))
-            (FromSource (options_of self.now) source.now) }
-        ensures agree { (read : List Loaded)
-            → HasFixedMarkup (setting_under E.registered E.user read self.now (data_of ctx.now))
-            (FromSource (options_of self.now) source.now) }
+        ensures laws { ObeysLaws E.registered E.user self.now source.now }
         ensures asks { AsksFor R.reads self.now None files.old files.new }
         ensures unread { is_dev self.now ≡ false → files.new ≡ files.old }
     {

@@ -2,9 +2,8 @@ use Rattle.std.proofs.Common.{inl, inr, refl}
 use Rattle.std.proofs.lemmas.Result.{IfOk-weaker, IfErr-weaker}
 use Rattle.handlebars_scope.specs.Contexts.{data_of}
 use Rattle.handlebars.proofs.Asks.{asks-nothing}
-use Rattle.handlebars.proofs.AnswerLaws.{FromSource-one, has_one_answer, answer_has_origins}
-use Rattle.handlebars.proofs.OverLaws.{over-lawful}
 use Rattle.handlebars.proofs.Writing.{not_converted_so}
+use Rattle.handlebars.proofs.CallLaws.{obeys_laws}
 use Rattle.handlebars.proofs.registry.RegistryOf.render_template.Goals as goal
 
 pub returns-in-Ok-clause-ok : goal.returns-in-Ok-clause-ok
@@ -18,19 +17,11 @@ returns-in-Ok-clause-err g c = IfErr-weaker c.render_template_with_context.resul
 pub returns-in-Err-clause-err : goal.returns-in-Err-clause-err
 returns-in-Err-clause-err g c = λ other. inl (not_converted_so _ _ c.in-Err.e c.in-Err.ensures.plain (c.in-Err.ensures.err other), refl)
 
-pub returns-in-Ok-clause-one : goal.returns-in-Ok-clause-one
-returns-in-Ok-clause-one g c = λ d read. has_one_answer _ (over-lawful g.E.UserParts.registered g.E.UserParts.user c.args.self.now d read c.satisfies_law.ensures)
-    _ (FromSource-one _ _)
+pub returns-in-Ok-clause-laws : goal.returns-in-Ok-clause-laws
+returns-in-Ok-clause-laws g c = obeys_laws g.E.UserParts.registered g.E.UserParts.user c.args.self.now c.satisfies_law.ensures c.args.source.now
 
-pub returns-in-Ok-clause-origins : goal.returns-in-Ok-clause-origins
-returns-in-Ok-clause-origins g c = λ d read. answer_has_origins _ _
-
-pub returns-in-Err-clause-one : goal.returns-in-Err-clause-one
-returns-in-Err-clause-one g c = λ d read. has_one_answer _ (over-lawful g.E.UserParts.registered g.E.UserParts.user c.args.self.now d read c.satisfies_law.ensures)
-    _ (FromSource-one _ _)
-
-pub returns-in-Err-clause-origins : goal.returns-in-Err-clause-origins
-returns-in-Err-clause-origins g c = λ d read. answer_has_origins _ _
+pub returns-in-Err-clause-laws : goal.returns-in-Err-clause-laws
+returns-in-Err-clause-laws g c = obeys_laws g.E.UserParts.registered g.E.UserParts.user c.args.self.now c.satisfies_law.ensures c.args.source.now
 
 pub returns-in-Err-clause-asks : goal.returns-in-Err-clause-asks
 returns-in-Err-clause-asks g c = asks-nothing g.R.TemplateReader.reads c.args.self.now _ c.args.files.now

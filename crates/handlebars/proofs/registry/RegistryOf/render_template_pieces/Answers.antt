@@ -3,12 +3,10 @@ use Rattle.handlebars_base.specs.TemplateRefusals.{template_refusal_of}
 use Rattle.handlebars_scope.specs.Contexts.{data_of}
 use Rattle.handlebars_template.specs.TreeView.{tree_view}
 use Rattle.handlebars.proofs.Asks.{asks-nothing}
-use Rattle.handlebars_markup.proofs.FixedMarkup.{two_runs}
-use Rattle.handlebars.proofs.AnswerLaws.{FromSource-one, has_one_answer, answer_has_origins, answer_stays}
-use Rattle.handlebars.proofs.OverLaws.{over-lawful}
 use Rattle.handlebars.proofs.WritesRead.{reading-source, reading-uncompiled}
 use Rattle.handlebars.proofs.Emitting.{EmitsPieces-begun}
 use Rattle.handlebars.specs.PieceCalls.{EmitsPieces, EmittedNothing}
+use Rattle.handlebars.proofs.CallLaws.{obeys_laws}
 use Rattle.handlebars.proofs.registry.RegistryOf.render_template_pieces.Goals as goal
 
 pub returns-in-Ok-clause-emits : goal.returns-in-Ok-clause-emits
@@ -21,33 +19,11 @@ returns-in-Err-clause-emits g c =
     reading-uncompiled EmittedNothing (λ ts. refl) c.args.self.now _ _ _ c.args.source.now _ (template_refusal_of c.in-Err.e) c.into.result _
     c.in-Err.ensures.err c.into.ensures
 
-pub returns-in-Ok-clause-one : goal.returns-in-Ok-clause-one
-returns-in-Ok-clause-one g c = λ read. has_one_answer _ (over-lawful g.E.UserParts.registered g.E.UserParts.user c.args.self.now (data_of c.args.ctx.now) read c.satisfies_law.ensures)
-    _ (FromSource-one _ _)
+pub returns-in-Ok-clause-laws : goal.returns-in-Ok-clause-laws
+returns-in-Ok-clause-laws g c = obeys_laws g.E.UserParts.registered g.E.UserParts.user c.args.self.now c.satisfies_law.ensures c.args.source.now
 
-pub returns-in-Ok-clause-agree : goal.returns-in-Ok-clause-agree
-returns-in-Ok-clause-agree g c = λ read. two_runs _ (over-lawful g.E.UserParts.registered g.E.UserParts.user c.args.self.now (data_of c.args.ctx.now) read c.satisfies_law.ensures)
-    _ (FromSource-one _ _)
-
-pub returns-in-Ok-clause-origins : goal.returns-in-Ok-clause-origins
-returns-in-Ok-clause-origins g c = λ read. answer_has_origins _ _
-
-pub returns-in-Ok-clause-stays : goal.returns-in-Ok-clause-stays
-returns-in-Ok-clause-stays g c = λ read. answer_stays _ _
-
-pub returns-in-Err-clause-one : goal.returns-in-Err-clause-one
-returns-in-Err-clause-one g c = λ read. has_one_answer _ (over-lawful g.E.UserParts.registered g.E.UserParts.user c.args.self.now (data_of c.args.ctx.now) read c.satisfies_law.ensures)
-    _ (FromSource-one _ _)
-
-pub returns-in-Err-clause-agree : goal.returns-in-Err-clause-agree
-returns-in-Err-clause-agree g c = λ read. two_runs _ (over-lawful g.E.UserParts.registered g.E.UserParts.user c.args.self.now (data_of c.args.ctx.now) read c.satisfies_law.ensures)
-    _ (FromSource-one _ _)
-
-pub returns-in-Err-clause-origins : goal.returns-in-Err-clause-origins
-returns-in-Err-clause-origins g c = λ read. answer_has_origins _ _
-
-pub returns-in-Err-clause-stays : goal.returns-in-Err-clause-stays
-returns-in-Err-clause-stays g c = λ read. answer_stays _ _
+pub returns-in-Err-clause-laws : goal.returns-in-Err-clause-laws
+returns-in-Err-clause-laws g c = obeys_laws g.E.UserParts.registered g.E.UserParts.user c.args.self.now c.satisfies_law.ensures c.args.source.now
 
 pub returns-in-Err-clause-asks : goal.returns-in-Err-clause-asks
 returns-in-Err-clause-asks g c = asks-nothing g.R.TemplateReader.reads c.args.self.now _ c.args.files.now
