@@ -1,9 +1,12 @@
 //! The report of a run about a template.
 
-ghost use Rattle.std.specs.Prelude.{◌≡◌, IfOk, length, nat_eq};
+ghost use Rattle.std.specs.Prelude.{◌≡◌, ◌&&◌, IfOk, length, nat_eq, not};
 
 use crate::failure::Failure;
-use handlebars::{DirectorySourceOptions, MarkupFault, NoFiles, Registry, TemplateReader};
+use crate::partials::{Partials, collect};
+use handlebars::{
+    DirectorySourceOptions, MarkupFault, NoFiles, Registry, Template, TemplateReader,
+};
 use std::alloc::Global;
 use std::io;
 use std::io::Write;
@@ -16,8 +19,8 @@ pub struct Request<'a> {
     pub folder: Option<&'a str>,
 }
 
-/// Prints `fixed`, or each location that prevents fixed markup, one a line. Returns whether the markup is fixed. The template
-/// is read first, then the folder.
+/// Prints `fixed`, or each location that prevents fixed markup and each call of a partial that is not registered, one a line.
+/// Returns whether it printed `fixed`. The template is read first, then the folder.
 pub fn check<'a, R: TemplateReader, O: Write>(
     alloc: Global,
     task: &Request<'a>,
@@ -27,39 +30,72 @@ pub fn check<'a, R: TemplateReader, O: Write>(
     let source = read(task.template, files)?;
     let mut registry = Registry::new(alloc)?;
     registry.set_strict_mode(task.strict);
-    check_with(task, &mut registry, source.as_str(), files, out)
+    if let Some(folder) = task.folder {
+        register(folder, &mut registry, files)?;
+    }
+    let faults = registry.template_markup_faults(source.as_str(), &mut NoFiles)?;
+    let template = Template::compile(alloc, source.as_str())?;
+    let missing = print_missing(alloc, &template, &registry, out)?;
+    print_locations(&faults, missing, out)
 }
 
-// Registers the templates of the folder, and checks.
-fn check_with<'a, R: TemplateReader, O: Write>(
-    task: &Request<'a>,
+// Registers the templates of a folder. A folder that can't be listed has none for the registry, and is a failure here.
+fn register<'a, R: TemplateReader>(
+    folder: &'a str,
     registry: &mut Registry,
-    source: &str,
     files: &mut R,
+) -> Result<(), Failure<'a>> {
+    match files.list(folder) {
+        Ok(_) => Ok(registry.register_templates_directory(
+            folder,
+            DirectorySourceOptions::default(),
+            files,
+        )?),
+        Err(cause) => Err(Failure::of_folder(folder, cause)),
+    }
+}
+
+// Prints each call of a partial that is neither registered nor an inline partial of any template. Returns whether there is one.
+fn print_missing<'a, O: Write>(
+    alloc: Global,
+    template: &Template,
+    registry: &Registry,
     out: &mut O,
 ) -> Result<bool, Failure<'a>> {
-    if let Some(folder) = task.folder {
-        registry.register_templates_directory(folder, DirectorySourceOptions::default(), files)?;
+    let mut partials = Partials {
+        calls: Vec::new(alloc),
+        inline: Vec::new(alloc),
+    };
+    collect(template, None, &mut partials)?;
+    for (name, template) in registry.get_templates().iter() {
+        collect(template, Some(name.as_str()), &mut partials)?;
     }
-    let faults = registry.template_markup_faults(source, &mut NoFiles)?;
-    print_locations(&faults, out)
+    let mut missing = false;
+    for call in &partials.calls {
+        if !registry.has_template(call.name) && !partials.inline.contains(&call.name) {
+            said(writeln!(out, "{call}"))?;
+            missing = true;
+        }
+    }
+    Ok(missing)
 }
 
-// Prints all locations, or that there are none.
+// Prints all locations, or that there are none and no partial is missing.
 fn print_locations<'a, O: Write>(
     faults: &Vec<MarkupFault>,
+    missing: bool,
     out: &mut O,
 ) -> Result<bool, Failure<'a>>
-    ensures fixed { IfOk result (λ fixed. fixed ≡ nat_eq (length faults.now.items) 0) }
+    ensures fixed { IfOk result (λ fixed. fixed ≡ (nat_eq (length faults.now.items) 0 && not missing)) }
 {
-    if faults.is_empty() {
-        said(writeln!(out, "fixed"))?;
-        return Ok(true);
-    }
     for fault in faults {
         said(writeln!(out, "{fault}"))?;
     }
-    Ok(false)
+    if missing || !faults.is_empty() {
+        return Ok(false);
+    }
+    said(writeln!(out, "fixed"))?;
+    Ok(true)
 }
 
 fn said<'a>(answer: io::Result<()>) -> Result<(), Failure<'a>> {

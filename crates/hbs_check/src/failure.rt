@@ -12,6 +12,7 @@ use std::{fmt, io};
 pub enum Failure<'a> {
     Usage,
     CannotRead(&'a str),
+    CannotList(&'a str),
     /// A template of the folder can't be registered.
     NotRegistered(TemplateError),
     /// The template is rejected.
@@ -26,6 +27,14 @@ impl<'a> Failure<'a> {
         match cause.kind() {
             ErrorKind::OutOfMemory => Failure::OutOfMemory,
             _ => Failure::CannotRead(path),
+        }
+    }
+
+    /// Returns the failure of a reader at a folder.
+    pub fn of_folder(path: &'a str, cause: io::Error) -> Failure<'a> {
+        match cause.kind() {
+            ErrorKind::OutOfMemory => Failure::OutOfMemory,
+            _ => Failure::CannotList(path),
         }
     }
 }
@@ -59,6 +68,7 @@ impl fmt::Display for Failure<'_> {
         match self {
             Failure::Usage => f.write_str("usage: hbs_check [--strict] TEMPLATE [FOLDER]"),
             Failure::CannotRead(path) => write!(f, "hbs_check: cannot read {path}"),
+            Failure::CannotList(path) => write!(f, "hbs_check: cannot list {path}"),
             Failure::NotRegistered(cause) => write!(f, "{cause}"),
             Failure::NotRendered(cause) => write!(f, "{cause}"),
             Failure::OutOfMemory => f.write_str("Out of memory"),

@@ -5,6 +5,7 @@
 mod arguments;
 mod check;
 mod failure;
+mod partials;
 mod run;
 
 use arguments::command_line;

@@ -13,8 +13,9 @@ use std::io::Write;
 /// The first argument names the template, and an optional second one a folder of templates. `--strict` before them is accepted
 /// so that the arguments are those of `hbs`. It does not change the result.
 ///
-/// The status is 0 if the markup is fixed, and 1 if it isn't. It is 2 if this can't be decided: for wrong arguments, for a file
-/// that can't be read, for a template that is rejected, or when memory runs out. One line on `err` then reports why.
+/// The status is 0 if the markup is fixed and all partials that are called by fixed names are registered, and 1 if not. It is 2
+/// if this can't be decided: for wrong arguments, for a file that can't be read, for a folder that can't be listed, for a
+/// template that is rejected, or when memory runs out. One line on `err` then reports why.
 pub fn run<'a, R: TemplateReader, O: Write, E: Write>(
     alloc: Global,
     arguments: Result<Vec<String>, Failure<'a>>,
