@@ -7,10 +7,14 @@ use Rattle.handlebars_lexer.specs.Options.{no_options}
 use Rattle.handlebars_template.proofs.Outcomes.{compilation_of-compiles}
 use Rattle.handlebars_helpers.specs.Callee.{first_callee}
 use Rattle.handlebars_helpers.specs.UserAnswers.{Registrations}
+use Rattle.handlebars_semantics.specs.Answer.{compiles}
 use Rattle.handlebars_semantics.specs.State.{hook}
+use Rattle.handlebars_semantics.specs.Steps.{◌>>=◌, ◌>>◌}
 use Rattle.handlebars_markup.specs.Blind.{calls_blind, is_blind_callee}
-use Rattle.handlebars_examples.specs.MarkupExamples.{IsFirst, TitleSourceExample, BlindExample, ReadsTextsExample, AlikeExample, EmptyTextExample, MarksExample}
-use Rattle.handlebars_examples.proofs.HelperTrees.{on_expressions, on_parameters}
+use Rattle.handlebars_examples.specs.MarkupExamples.{IsFirst, TitleSourceExample, BlindExample, ReadingSourceExample, ReadsTextsExample, AlikeExample, EmptyTextExample, MarksExample, ReadingAnswersExample}
+use Rattle.handlebars_examples.proofs.Answered.{no_user_parts}
+use Rattle.handlebars_examples.proofs.HelperTrees.{on_expressions, on_literals, on_parameters}
+use Rattle.handlebars_examples.proofs.RunOf.{tree_run, gives_text}
 
 pub title_source_example : TitleSourceExample
 unfolding on_expressions on_parameters after_bar after_beginning
@@ -37,6 +41,10 @@ blind_example r h = (
   record { escape = h.escape; hooks = hooks-first r h },
 )
 
+pub reading_source_example : ReadingSourceExample
+unfolding on_expressions on_parameters after_bar after_beginning on_literals
+reading_source_example = compilation_of-compiles no_options 2 _ _ refl
+
 pub reads_texts_example : ReadsTextsExample
 reads_texts_example r h blind =
     let none : false ≡ true = sym (calls_blind-first r h (codes "eq")) ∙ blind.0.1.0.0.0 in cc
@@ -49,3 +57,13 @@ empty_text_example h = h.1
 
 pub marks_example : MarksExample
 marks_example = refl
+
+pub reading_answers_example : ReadingAnswersExample
+unfolding ◌>>=◌ ◌>>◌
+reading_answers_example = (
+  (refl, tt, tt),
+  (
+    gives_text (compiles reading_source_example) (tree_run _ no_user_parts _) refl,
+    gives_text (compiles reading_source_example) (tree_run _ no_user_parts _) refl,
+  ),
+)

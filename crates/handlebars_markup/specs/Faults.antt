@@ -1,5 +1,5 @@
 -- What breaks blindness: in a template each location with its reason, and in a registry each reason.
-use Rattle.std.specs.Prelude.{◌≡◌, ◌↔◌, Bool, true, false, List, [], ◌∷◌, ◌++◌, map, Option, None, Some, unwrap_or}
+use Rattle.std.specs.Prelude.{◌≡◌, ◌↔◌, ℕ, Bool, true, false, List, [], ◌∷◌, ◌++◌, map, Option, None, Some, option_map, unwrap_or}
 use Rattle.handlebars_base.specs.Bytes.{Text}
 use Rattle.handlebars_base.specs.EscapeLaws.{marks_in}
 use Rattle.handlebars_base.specs.Path.{raw_of}
@@ -27,15 +27,21 @@ pub data Why : Type 0 where
   other_escape : Why
   reading_hook : Text → Why
 
--- in which template, if it has a name; at which position, if one is known; and why
+-- in which template, if it has a name; at which line and column, if they are known; and why
 pub record Fault : Type 0 where
   pub template : Option Text
-  pub position : Option Position
+  pub line : Option ℕ
+  pub column : Option ℕ
   pub why : Why
 
 -- all at one position
 abbrev pub faults_at : Option Text → Option Position → List Why → List Fault
-faults_at n p ws = map (λ w. record { template = n; position = p; why = w }) ws
+faults_at n p ws = map (λ w. record {
+  template = n;
+  line = option_map (λ (q : Position). q.line) p;
+  column = option_map (λ (q : Position). q.column) p;
+  why = w;
+}) ws
 
 abbrev pub unless : Bool → Why → List Why
 unless true w = []

@@ -1,6 +1,5 @@
 -- How the definitions view the code's values of faults.
-use Rattle.std.specs.Prelude.{◌≡◌, ℕ, List, ◌++◌, map, Option, None, Some, option_map, string_bytes}
-use Rattle.handlebars_template.specs.Position.{Position}
+use Rattle.std.specs.Prelude.{◌≡◌, List, ◌++◌, map, option_map, string_bytes}
 use Rattle.handlebars_template.specs.TreeView.{position_of}
 use Rattle.handlebars_markup.specs.Faults.{Why, unescaped_value, made_name, reading_helper, user_decorator, name_from_value, inclusion_hash, marked_indent, other_escape, reading_hook, Fault, faults_at}
 use Rattle.handlebars_markup.specs.declared.check.location.Cause.{Cause}
@@ -21,15 +20,11 @@ why_of reason.MarkedIndent = marked_indent
 why_of reason.OtherEscape = other_escape
 why_of (reason.ReadingHook n) = reading_hook (string_bytes n)
 
--- a position, if both of its numbers are there
-abbrev pub position_with : Option ℕ → Option ℕ → Option Position
-position_with (Some line) (Some column) = Some (record { line = line; column = column })
-position_with line column = None
-
 abbrev pub fault_of : MarkupFault → Fault
 fault_of f = record {
   template = option_map string_bytes f.template_name;
-  position = position_with f.line_no f.column_no;
+  line = f.line_no;
+  column = f.column_no;
   why = why_of f.reason;
 }
 
