@@ -4,9 +4,8 @@ ghost use Rattle.handlebars_examples.specs.MarkupExamples.{TitleSourceExample, B
 ghost use Rattle.handlebars_examples.specs.MarkupExamples.{ReadsTextsExample, ReadingAnswersExample};
 ghost use Rattle.handlebars_examples.specs.MarkupExamples.{AlikeExample, EmptyTextExample, MarksExample};
 
-/// States that with a new registry a source that writes a text into an attribute is blind, and one that inspects a text is not, whose
-/// answers over such data differ;
-/// which data are equal up to texts; and what the marks of a text are.
+/// States that with a new registry a source that writes a text into an attribute is blind, and one that inspects a text is not,
+/// whose answers over data that is equal up to texts differ; which data are equal up to texts; and what the marks of a text are.
 pub fn worked_markup()
     ensures title_source { TitleSourceExample }
     ensures blind { BlindExample }

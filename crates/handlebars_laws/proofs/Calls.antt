@@ -232,8 +232,8 @@ module _ (p : Setting) (law : Law) (closed : Closed p law) (occurrence : Occurre
         render_found-holds : (found : Found) → IsValue p false c s v found → Goes 0 any s (render_found occurrence c v found)
         unfolding ◌>>=◌
         render_found-holds (walked d path) has =
-            write_value-holds false c shown s comes v viewed v s (walked d path) fits (of_itself has)
-        render_found-holds (value d) has = write_value-holds false c shown s comes v viewed v s (value d) fits (of_itself has)
+            write_value-holds false c shown s comes v viewed v s (walked d path) fits (of_itself tt has)
+        render_found-holds (value d) has = write_value-holds false c shown s comes v viewed v s (value d) fits (of_itself tt has)
         render_found-holds missing has = λ h end i le next g.
             ask-holds p law this end i s (hook_for (call_name c)) _ (λ o is.
             render_hook-holds o is has h end i le next g)

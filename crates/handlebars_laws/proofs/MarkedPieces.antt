@@ -31,7 +31,7 @@ use Rattle.handlebars_laws.proofs.CompiledRuns.{read-at, IsTreeOfRun-well, AreIn
 use Rattle.handlebars_laws.proofs.CompiledTrees.{compiles_so}
 use Rattle.handlebars_laws.proofs.Lists.{All-weaker, All-later, All-has, list_all-has, Contains-prefix, append-cases}
 use Rattle.handlebars_laws.proofs.OneAnswer.{gives-injective}
-use Rattle.handlebars_laws.proofs.RunOrigins.{is_raw_occurrence-at, all_have_origins, comes_in_trees}
+use Rattle.handlebars_laws.proofs.RunOrigins.{IsWriter-visited, is_raw_occurrence-at, all_have_origins, comes_in_trees}
 
 -- ---- texts without marks
 
@@ -141,7 +141,7 @@ module _ (p : Setting) (u : Tree) (blocks : List Frame) (vs : List Visit) (first
 
   IsOfIndent-blank : (occurrence : Occurrence) (t : Text) → IsOfIndent p u vs occurrence t → IsBlank t
   IsOfIndent-blank occurrence t h = list_all-prefix is_blank t h.all h.is
-      (AreIndents-blank p u blocks vs first stored passed before h.indents (occurrence-of_run _ h.visited.comes).0)
+      (AreIndents-blank p u blocks vs first stored passed before h.indents (occurrence-of_run _ (IsWriter-visited h.writer).comes).0)
 
   ComesFrom-blank : (o : Origin) (t : Text) → ComesFrom p u vs o t → IsBlankIndent o t
   ComesFrom-blank (of_text occurrence) t h = tt

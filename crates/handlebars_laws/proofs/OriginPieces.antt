@@ -1,13 +1,13 @@
 -- Pieces that have origins: prefixes of them, and those of a text that is put.
-use Rattle.std.proofs.Common.{◌≡◌, List, [], ◌∷◌, Bool, true, false, Option, None, Some, unwrap_or, if◌then◌else◌, sym, append-nil}
+use Rattle.std.proofs.Common.{List, [], ◌∷◌, Bool, true, false, Option, None, Some, unwrap_or, if◌then◌else◌, sym, append-nil}
 use Rattle.std.specs.List.{AllByRecursion}
 use Rattle.handlebars_base.specs.Bytes.{Text}
 use Rattle.handlebars_base.specs.Outputs.{IsPrefix}
 use Rattle.handlebars_base.specs.Values.{boolean_text}
-use Rattle.handlebars_template.specs.Tree.{Tree, Element}
+use Rattle.handlebars_template.specs.Tree.{Tree}
 use Rattle.handlebars_scope.specs.Indentation.{lines_of, takes_indent}
 use Rattle.handlebars_scope.specs.LineState.{LineState}
-use Rattle.handlebars_semantics.specs.Origins.{IsWithin, tree_occurrence_of, element_at, IsVisited, AreIndents, ComesFrom, HasOrigin, HaveOrigins}
+use Rattle.handlebars_semantics.specs.Origins.{IsWithin, tree_occurrence_of, AreIndents, IsWriter, ComesFrom, HasOrigin, HaveOrigins}
 use Rattle.handlebars_semantics.specs.Pieces.{Origin, of_text, of_value, of_raw, of_boolean_text, of_step, of_indent, occurrence_of, Piece, pieces_of, indent_pieces, pieces_between, pieces_before, put}
 use Rattle.handlebars_semantics.specs.Runs.{Prefix, none, truncated, more}
 use Rattle.handlebars_semantics.specs.State.{Setting}
@@ -72,8 +72,6 @@ module _ (p : Setting) (u : Tree) (vs : List Visit) where
   }
   ComesFrom-prefix (of_indent occurrence) a b c h = record {
     writer = h.writer;
-    occurs = h.occurs;
-    visited = h.visited;
     all = h.all;
     indents = h.indents;
     is = beginning_beginning a b h.all c h.is;
@@ -103,16 +101,17 @@ module _ (p : Setting) (u : Tree) (vs : List Visit) where
   pieces_if-origins true ps h = h
   pieces_if-origins false ps h = tt
 
-  -- by an element that is at its occurrence, to which the run comes
-  pub put-origins : (o : Origin) (i : Option Text) (t : Text) (line : LineState) (e : Element)
-      → element_at u (occurrence_of o) ≡ Some e → IsVisited vs (occurrence_of o) → AreIndents p u vs (tree_occurrence_of (occurrence_of o)) (unwrap_or i [])
+  pub all-within : (t : Text) → IsWithin t t
+  all-within t = record { left = []; right = []; is = sym (append-nil t) }
+
+  -- by the element at its occurrence
+  pub put-origins : (o : Origin) (i : Option Text) (t : Text) (line : LineState) → IsWriter p u vs (occurrence_of o)
+      → AreIndents p u vs (tree_occurrence_of (occurrence_of o)) (unwrap_or i [])
       → ((a : Text) → IsWithin a t → ComesFrom p u vs o a) → HaveOrigins p u vs (put o i t line).0
-  put-origins o None t line e occurs visited indents comes = pieces_of-origins o t (comes t (record { left = []; right = []; is = sym (append-nil t) }))
-  put-origins o (Some i) t line e occurs visited indents comes =
+  put-origins o None t line writer indents comes = pieces_of-origins o t (comes t (all-within t))
+  put-origins o (Some i) t line writer indents comes =
       let own = pieces_of-origins (of_indent (occurrence_of o)) i (record {
-        writer = e;
-        occurs = occurs;
-        visited = visited;
+        writer = writer;
         all = i;
         indents = indents;
         is = all_begins i;

@@ -12,7 +12,7 @@ use Rattle.handlebars_helpers.specs.CallView.{CallView}
 use Rattle.handlebars_helpers.specs.Iterations.{iteration_frame}
 use Rattle.handlebars_semantics.specs.Laws.{IsPlain, alone}
 use Rattle.handlebars_semantics.specs.Means.{render_alone}
-use Rattle.handlebars_semantics.specs.Origins.{IsWithin, nth_in, nth_position, element_call, element_body, element_inverse, tree_occurrence_of, tree_at, element_at, shown_call, is_html, is_raw_tree, is_raw_occurrence, WritesValue, IsReached, IsVisited, IsCalled, Shows, IsOfShown, HaveOrigins, IsTagged, AreIndents, around_body, around_block, around_inverse, set_by, passed_in, IsTreeOfRun, is_first, is_body, is_inverse, is_local_of, is_stored, IsOccurrenceOfRun, OccurInTrees}
+use Rattle.handlebars_semantics.specs.Origins.{IsWithin, nth_in, nth_position, element_call, element_body, element_inverse, tree_occurrence_of, tree_at, element_at, shown_call, is_html, is_raw_tree, is_raw_occurrence, WritesValue, IsReached, IsVisited, IsCalled, Shows, IsOfShown, HaveOrigins, IsTagged, AreIndents, around_body, around_block, around_inverse, set_by, passed_in, IsTreeOfRun, is_first, is_body, is_inverse, is_local_of, is_stored, IsOccurrenceOfRun, OccurInTrees, IsOfText, IsWriter, writes_text, writes_shown}
 use Rattle.handlebars_semantics.specs.Pieces.{of_text, of_value, of_raw, of_step, Piece}
 use Rattle.handlebars_semantics.specs.Runs.{Outcome, Runs, Means}
 use Rattle.handlebars_semantics.specs.Occurrences.{TreeOccurrence, first_tree, Occurrence, element_in}
@@ -23,7 +23,7 @@ use Rattle.handlebars_semantics.specs.Writing.{rendered_if_any}
 use Rattle.handlebars_laws.proofs.Closed.{ComesToCall, ComesToTag, Closed}
 use Rattle.handlebars_laws.proofs.Law.{Law, Obeys, IsSound, Runs-obeys}
 use Rattle.handlebars_laws.proofs.Lists.{All-append}
-use Rattle.handlebars_laws.proofs.OriginPieces.{HaveOrigins-prefix, pieces_of-origins, put-origins}
+use Rattle.handlebars_laws.proofs.OriginPieces.{HaveOrigins-prefix, all-within, pieces_of-origins, put-origins}
 use Rattle.handlebars_laws.proofs.RunStates.{included_at-indents, own_block-indents, no_indent-indents, IsFrameOfRun, IsOfRun, IsReachedFrom, newest-origins, outer_frames-frames, nearest_as-frames, partial_in-local, with_partial-frame, iteration_frame-frame, with_frame-frame, first-of_run}
 use Rattle.handlebars_laws.proofs.Walk.{todo-holds}
 use Rattle.handlebars_laws.proofs.Within.{all_begins}
@@ -57,6 +57,11 @@ element_at-read u occurrence read e x occurs is = ap (option_and_then read) occu
 
 IsReached-visited : {vs : List Visit} {occurrence : Occurrence} {s : State} → IsReached vs occurrence s → IsVisited vs occurrence
 IsReached-visited reached = record { state = reached.first; comes = reached.comes }
+
+pub IsWriter-visited : {p : Setting} {u : Tree} {vs : List Visit} {occurrence : Occurrence} → IsWriter p u vs occurrence
+    → IsVisited vs occurrence
+IsWriter-visited (writes_text x) = IsReached-visited x.reached
+IsWriter-visited (writes_shown x) = IsReached-visited x.called.reached
 
 module _ (p : Setting) (u : Tree) (blocks : List Frame) (vs : List Visit) where
   -- an element or a tree that is at its occurrence, in a tree of the run
@@ -299,16 +304,16 @@ module _ (p : Setting) (u : Tree) (blocks : List Frame) (vs : List Visit) where
           of_run = h;
         };
     text_written = λ {occurrence = occurrence} {t = t} {s = s} at fits h.
-        put-origins p u vs (of_text occurrence) s.indent t s.line _ at.occurs (IsReached-visited at.reached) fits.indented
-        (λ a within. record { all = t; occurs = at.occurs; state = s; reached = at.reached; is = within });
+        let comes : (a : Text) → IsWithin a t → IsOfText u vs occurrence a =
+        λ a within. record { all = t; occurs = at.occurs; state = s; reached = at.reached; is = within } in
+        put-origins p u vs (of_text occurrence) s.indent t s.line (writes_text (comes t (all-within p u vs t))) fits.indented comes;
     value_written = λ {occurrence = occurrence} {s = s} {found = found} t called has fits is shows h.
-        put-origins p u vs (of_value occurrence found) s.indent t s.line _ called.comes.occurs
-        (IsReached-visited called.comes.reached) fits.indented
-        (WritesValue-shown s true called has fits.raw is shows);
+        let comes = WritesValue-shown s true called has fits.raw is shows in
+        put-origins p u vs (of_value occurrence found) s.indent t s.line (writes_shown (comes t (all-within p u vs t))) fits.indented comes;
     raw_written = λ {occurrence = occurrence} {s = s} {found = found} called has fits is h.
-        put-origins p u vs (of_raw occurrence found) s.indent (rendered_if_any (present_in found)) s.line _ called.comes.occurs
-        (IsReached-visited called.comes.reached) fits.indented
-        (WritesValue-shown s false called has fits.raw is refl);
+        let t = rendered_if_any (present_in found) in
+        let comes = WritesValue-shown s false called has fits.raw is refl in
+        put-origins p u vs (of_raw occurrence found) s.indent t s.line (writes_shown (comes t (all-within p u vs t))) fits.indented comes;
     boolean_text_written = λ {c = c} {s = s} {v = v} b called says. (
       record { helper = c; state = s; view = v; called = ComesToCall-called called; says = says; is = all_begins (boolean_text b) },
       tt,

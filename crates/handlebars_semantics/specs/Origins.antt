@@ -6,7 +6,7 @@ use Rattle.serde_json.specs.Data.{Data}
 use Rattle.handlebars_base.specs.Answers.{gives}
 use Rattle.handlebars_base.specs.Bytes.{Text}
 use Rattle.handlebars_base.specs.Optional.{◌>>=◌, with_or}
-use Rattle.handlebars_base.specs.Scoped.{Found, value, missing, present_in}
+use Rattle.handlebars_base.specs.Scoped.{Found, walked, value, missing, present_in}
 use Rattle.handlebars_base.specs.Values.{boolean_text}
 use Rattle.handlebars_template.specs.Position.{Position}
 use Rattle.handlebars_template.specs.Tree.{Tree, tree, tree_elements, Elements, no_elements, element, Element, raw_string, html_expression, escaped_expression, helper_block, decorator_expression, decorator_block, partial_expression, partial_block, Call, call_name, call_args, call_body, call_inverse, is_value, Decorator, decorator_name, decorator_args, decorator_body, decorator_marks, Body, no_body, body}
@@ -175,9 +175,15 @@ pub record Chooses (p : Setting) (block : Bool) (c : Call) (s : State) (v : Call
   pub calls : Calls p block c s v target shown
   pub chooses : IsAnswered p s (choice_of target (view_with_bodies block c shown)) (gives choice)
 
--- A call of this view writes this value in a state: its own, as a lone expression, or the one that its helper chooses.
+abbrev pub IsPresent : Found → Type 0
+IsPresent (walked d path) = Unit {0}
+IsPresent (value d) = Unit {0}
+IsPresent missing = ⊥
+
+-- A call of this view writes this value in a state: its own, as a lone expression, if it is not missing; or the one that its
+-- helper chooses.
 pub data WritesValue (p : Setting) (block : Bool) (c : Call) (s : State) (v : CallView) : Found → Type 0 where
-  of_itself : {found : Found} → IsValue p block c s v found → WritesValue p block c s v found
+  of_itself : {found : Found} → IsPresent found → IsValue p block c s v found → WritesValue p block c s v found
   of_helper : {d : Data} → Chooses p block c s v (the_value d) → WritesValue p block c s v (value d)
 
 -- the call of the element at the occurrence, in a state in which the run visits it
@@ -275,12 +281,16 @@ pub data AreIndents (p : Setting) (u : Tree) (vs : List Visit) : TreeOccurrence 
       → AreIndents p u vs (tree_occurrence_of occurrence) t → IsTagged p u vs occurrence inclusion_tag tag s v
       → Finds p tag s v (is_own_block x) → AreIndents p u vs (body_at occurrence (as_part 0)) (t ++ own_indent tag)
 
--- the indentations around the element at the occurrence, which the run visits and which writes them; or a prefix of them, if
--- the run stopped within them
+-- Text or a value that is written at the occurrence, by its element.
+pub data IsWriter (p : Setting) (u : Tree) (vs : List Visit) (occurrence : Occurrence) : Type 0 where
+  writes_text : {t : Text} → IsOfText u vs occurrence t → IsWriter p u vs occurrence
+  writes_shown : {escapes : Bool} {found : Found} {t : Text} → IsOfShown p u vs escapes occurrence found t
+      → IsWriter p u vs occurrence
+
+-- the indentations around the element at the occurrence, which writes text or a value there; or a prefix of them, if the run
+-- stopped within them
 pub record IsOfIndent (p : Setting) (u : Tree) (vs : List Visit) (occurrence : Occurrence) (t : Text) : Type 0 where
-  pub writer : Element
-  pub occurs : element_at u occurrence ≡ Some writer
-  pub visited : IsVisited vs occurrence
+  pub writer : IsWriter p u vs occurrence
   pub all : Text
   pub indents : AreIndents p u vs (tree_occurrence_of occurrence) all
   pub is : IsPrefix t all
