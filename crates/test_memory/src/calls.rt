@@ -42,7 +42,7 @@ pub fn seen(alloc: Global, call: &Call) -> Result<Seen, Stop> {
 }
 
 /// All calls, by name.
-pub static CALLS: [(&str, Call); 67] = [
+pub static CALLS: [(&str, Call); 71] = [
     ("RenderError::new", Call::OfError(errors::Call::New)),
     (
         "RenderError::strict_error",
@@ -114,6 +114,10 @@ pub static CALLS: [(&str, Call); 67] = [
     ),
     ("LocalVars::put", Call::OfScope(scopes::Call::PutVariable)),
     (
+        "LocalVars::clone",
+        Call::OfScope(scopes::Call::CloneVariables),
+    ),
+    (
         "BlockParams::add_path",
         Call::OfScope(scopes::Call::AddPath),
     ),
@@ -133,9 +137,15 @@ pub static CALLS: [(&str, Call); 67] = [
         "BlockContext::set_block_param",
         Call::OfScope(scopes::Call::SetBlockParam),
     ),
+    (
+        "BlockContext::with_variables_of",
+        Call::OfScope(scopes::Call::CopyVariables),
+    ),
     ("Context::wraps", Call::OfScope(scopes::Call::Wrap)),
     ("Context::clone", Call::OfScope(scopes::Call::CloneData)),
     ("Context::navigate", Call::OfScope(scopes::Call::Navigate)),
+    ("FullPath::names", Call::OfScope(scopes::Call::BorrowNames)),
+    ("FullPath::copied", Call::OfScope(scopes::Call::CopyNames)),
     ("RenderContext::new", Call::OfContext(contexts::Call::New)),
     (
         "RenderContext::push_block",

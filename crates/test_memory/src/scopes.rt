@@ -3,8 +3,8 @@
 use crate::given::{data_of, value_of};
 use crate::seen::{Seen, Stop, of_error, of_unit};
 use handlebars::{
-    BlockContext, BlockParamHolder, BlockParams, Context, JsonValue, LocalVars, Path, PathSeg,
-    RenderError, ScopedJson, Template,
+    BlockContext, BlockParamHolder, BlockParams, Context, FullPath, JsonValue, LocalVars, Path,
+    PathSeg, RenderError, ScopedJson, Template,
 };
 use std::alloc::{AllocError, Global};
 use std::collections::VecDeque;
@@ -13,28 +13,36 @@ use std::rc::Rc;
 /// A call of a scope frame, or of data.
 pub enum Call {
     PutVariable,
+    CloneVariables,
     AddPath,
     AddValue,
     SetLocalVar,
     SetLocalPartial,
     SetBlockParam,
+    CopyVariables,
     Wrap,
     CloneData,
     Navigate,
+    BorrowNames,
+    CopyNames,
 }
 
 /// Returns the outcome of a call.
 pub fn seen(alloc: Global, call: &Call) -> Result<Seen, Stop> {
     match call {
         Call::PutVariable => variable(alloc),
+        Call::CloneVariables => cloned_variables(alloc),
         Call::AddPath => bound_path(alloc),
         Call::AddValue => bound_value(alloc),
         Call::SetLocalVar => block_variable(alloc),
         Call::SetLocalPartial => block_partial(alloc),
         Call::SetBlockParam => block_param(alloc),
+        Call::CopyVariables => block_with_variables(alloc),
         Call::Wrap => wrapped(alloc),
         Call::CloneData => copied(alloc),
         Call::Navigate => navigated(alloc),
+        Call::BorrowNames => borrowed_names(alloc),
+        Call::CopyNames => copied_names(alloc),
     }
 }
 
@@ -61,6 +69,15 @@ fn variable(alloc: Global) -> Result<Seen, Stop> {
     let answer = variables.put("name", 2u64.into());
     let seen = of_put(answer, variables.get("name"), 2);
     Ok(seen.if_so(is(variables.get("other"), Some(1))))
+}
+
+fn cloned_variables(alloc: Global) -> Result<Seen, Stop> {
+    let mut variables = LocalVars::new(alloc);
+    variables.put("name", 1u64.into())?;
+    match variables.clone() {
+        Ok(copy) => Ok(Seen::answer_if(is(copy.get("name"), Some(1)))),
+        Err(AllocError) => Ok(Seen::OutOfMemory),
+    }
 }
 
 fn held_value(holder: Option<&BlockParamHolder>) -> Option<&JsonValue> {
@@ -112,6 +129,15 @@ fn block_param(alloc: Global) -> Result<Seen, Stop> {
     let answer = block.set_block_param("name", BlockParamHolder::value(2u64.into()));
     let seen = of_put(answer, held_value(block.get_block_param("name")), 2);
     Ok(seen.if_so(is(held_value(block.get_block_param("other")), Some(1))))
+}
+
+fn block_with_variables(alloc: Global) -> Result<Seen, Stop> {
+    let mut block = BlockContext::new(alloc);
+    block.set_local_var("name", 1u64.into())?;
+    match BlockContext::with_variables_of(&block) {
+        Ok(copy) => Ok(Seen::answer_if(is(copy.get_local_var("name"), Some(1)))),
+        Err(AllocError) => Ok(Seen::OutOfMemory),
+    }
 }
 
 fn shared(alloc: Global, source: &str) -> Result<Rc<Template>, Stop> {
@@ -193,4 +219,20 @@ fn of_path(alloc: Global, segments: &[PathSeg]) -> Result<Seen, Stop> {
     let data = data_of(alloc, DATA)?;
     let blocks = VecDeque::new(alloc);
     Ok(of_found(data.navigate(alloc, segments, &blocks, false)))
+}
+
+fn borrowed_names(alloc: Global) -> Result<Seen, Stop> {
+    let path = path_of(alloc)?;
+    match FullPath::of(path.as_slice()).names(alloc) {
+        Ok(names) => Ok(Seen::answer_if(names.len() == 1)),
+        Err(AllocError) => Ok(Seen::OutOfMemory),
+    }
+}
+
+fn copied_names(alloc: Global) -> Result<Seen, Stop> {
+    let path = path_of(alloc)?;
+    match FullPath::of(path.as_slice()).copied(alloc) {
+        Ok(copy) => Ok(Seen::answer_if(copy.len() == 1)),
+        Err(AllocError) => Ok(Seen::OutOfMemory),
+    }
 }
