@@ -18,7 +18,7 @@ use Rattle.handlebars_render.specs.View.{GivesString, StringFails}
 use Rattle.handlebars_semantics.specs.Answer.{Beginning, a_tree, no_tree, FromSource, compiles, does_not, FromName, is_stored, is_not, not_begun, has_begun, GivesText, FailsWith, HasOneAnswer, AnswerHasOrigins, AnswerStays, NamedAnswerStays}
 use Rattle.handlebars_laws.proofs.Once.{comes_once}
 use Rattle.handlebars_laws.proofs.OtherTemplates.{same_answer_under_larger, answer_only_by_names, named_answer_only_by_names}
-use Rattle.handlebars_laws.proofs.RenamedRuns.{named_answer_as_source}
+use Rattle.handlebars_laws.proofs.RenamedRuns.{named_answer_as_source, source_answer_as_named}
 use Rattle.handlebars_laws.proofs.RunLaws.{Runs-one}
 use Rattle.handlebars_laws.proofs.RunOrigins.{all_have_origins, comes_in_trees}
 use Rattle.handlebars_semantics.specs.Laws.{IsPlain}
@@ -131,6 +131,7 @@ named_answer_stays p name = record {
   larger = same_answer_under_larger p (FromName p.parts.template name);
   others = named_answer_only_by_names p name;
   source = named_answer_as_source p name;
+  named = source_answer_as_named p name;
 }
 
 -- ---- what calls answer

@@ -3,7 +3,8 @@ use Rattle.std.specs.Prelude.{List, Option}
 use Rattle.serde_json.specs.Data.{Data}
 use Rattle.handlebars_base.specs.Bytes.{Text}
 use Rattle.handlebars_helpers.specs.UserAnswers.{UserAnswers, Registrations}
-use Rattle.handlebars_semantics.specs.Answer.{Beginning, FromSource, FromName, HasOneAnswer, AnswerHasOrigins, AnswerStays, NamedAnswerStays}
+use Rattle.handlebars_lexer.specs.Options.{Options}
+use Rattle.handlebars_semantics.specs.Answer.{FromSource, FromName, HasOneAnswer, AnswerHasOrigins, AgreesByName, AnswerStays, NamedAnswerStays}
 use Rattle.handlebars_semantics.specs.State.{Setting}
 use Rattle.handlebars_markup.specs.TwoRuns.{HasFixedMarkup}
 use Rattle.handlebars.specs.Files.{Loaded}
@@ -11,15 +12,17 @@ use Rattle.handlebars.specs.Over.{setting_under}
 use Rattle.handlebars.specs.View.{options_of}
 use Rattle.handlebars.specs.declared.registry.RegistryOf.{RegistryOf}
 
--- There is at most one answer; each of its pieces has an origin; it is independent of what it does not ask for; and if all
--- templates are blind, its markup is independent of the strings in the data.
-pub record AnswerLaws (p : Setting) (begins : Beginning → Type 0) : Type 0 where
-  pub one : HasOneAnswer p begins
-  pub origins : AnswerHasOrigins p begins
-  pub stays : AnswerStays p begins
-  pub agree : HasFixedMarkup p begins
+-- There is at most one answer by the source; each of its pieces has an origin; it is independent of what it does not ask for;
+-- if all templates are blind, its markup is independent of the strings in the data; and it agrees with the answer by each name
+-- under which that source is registered, both ways.
+pub record SourceAnswerLaws (p : Setting) (options : Options) (source : Text) : Type 0 where
+  pub one : HasOneAnswer p (FromSource options source)
+  pub origins : AnswerHasOrigins p (FromSource options source)
+  pub stays : AnswerStays p (FromSource options source)
+  pub agree : HasFixedMarkup p (FromSource options source)
+  pub by_name : AgreesByName p options source
 
--- The same of the answer by a name, which also agrees with the answer by the source of that template.
+-- The same of the answer by a name, which agrees with the answer by the source of that template, both ways.
 pub record NamedAnswerLaws (p : Setting) (name : Text) : Type 0 where
   pub one : HasOneAnswer p (FromName p.parts.template name)
   pub origins : AnswerHasOrigins p (FromName p.parts.template name)
@@ -30,7 +33,7 @@ pub record NamedAnswerLaws (p : Setting) (name : Text) : Type 0 where
 module _ {E : Type 0} (registered : E → Registrations) (user : E → UserAnswers) (r : RegistryOf E) where
   abbrev pub ObeysLaws : Text → Type 0
   ObeysLaws source = (d : Data) (read : List Loaded)
-      → AnswerLaws (setting_under registered user read r d) (FromSource (options_of r) source)
+      → SourceAnswerLaws (setting_under registered user read r d) (options_of r) source
 
   abbrev pub ObeysLawsByName : Text → Type 0
   ObeysLawsByName name = (d : Data) (read : List Loaded) → NamedAnswerLaws (setting_under registered user read r d) name

@@ -1,19 +1,20 @@
--- An answer by a name and one by its source agree, if no inclusion of the run names it.
+-- An answer by a name and one by its source agree, both ways, if no inclusion of the run names it.
 use Rattle.std.proofs.Common.{◌≡◌, ◌≢◌, List, [], ◌∷◌, ◌++◌, Bool, true, false, refl, sym, ap, ◌∙◌, subst, Option, None, Some}
 use Rattle.std.specs.List.{AllByRecursion}
 use Rattle.std.specs.Str.{bytes_eq}
 use Rattle.std.proofs.lemmas.Slice.Eq.{bytes_eq-Decides}
 use Rattle.handlebars_base.specs.Bytes.{Text}
-use Rattle.handlebars_base.specs.Reasons.{Location}
+use Rattle.handlebars_base.specs.Reasons.{Location, TemplateRefusal}
 use Rattle.handlebars_lexer.specs.Options.{Options}
 use Rattle.handlebars_lexer.specs.Tag.{Tag, escaped_tag, html_tag, block_tag, inverse_tag, chain_tag, close_tag, raw_tag, raw_close_tag, decorator_tag, decorator_block_tag, partial_tag, partial_block_tag, comment_tag}
 use Rattle.handlebars_lexer.specs.Trim.{WhitespaceControl}
-use Rattle.handlebars_template.specs.Compile.{tag_piece, text_pieces, pieces_in, tree_of, Compiles, compiled, whole}
+use Rattle.handlebars_template.specs.Compile.{tag_piece, text_pieces, pieces_in, tree_of, Compiles, compiled, rejected, whole}
 use Rattle.handlebars_template.specs.Tokens.{Token, text_token, tag_token, TextAndTag, Reads, nothing_read, goes_on, AreTokens}
 use Rattle.handlebars_template.specs.Nest.{SourcePiece, PositionedElement, names_and_literals, Nests}
 use Rattle.handlebars_template.specs.Position.{Position}
 use Rattle.handlebars_template.specs.Tree.{Tree, tree, tree_name, Elements}
-use Rattle.handlebars_semantics.specs.Answer.{is_stored, is_not, FromSource, compiles, not_begun, has_begun, IsSamePosition, Agree, HasAgreeingAnswer, NamedAnswerAsSource}
+use Rattle.handlebars_template.proofs.One.{one_compilation}
+use Rattle.handlebars_semantics.specs.Answer.{FromName, is_stored, is_not, FromSource, compiles, does_not, not_begun, has_begun, IsSamePosition, Agree, HasAgreeingAnswer, NamedAnswerAsSource, SourceAnswerAsNamed, AgreesByName}
 use Rattle.handlebars_semantics.specs.Means.{todo}
 use Rattle.handlebars_semantics.specs.Names.{included_names}
 use Rattle.handlebars_semantics.specs.Pieces.{Piece}
@@ -119,26 +120,17 @@ module _ (p : Setting) (n : Text) where
       record { outcome = rest.outcome; runs = below_limit lt rest.runs; ends = rest.ends }
   Runs-twin (both_check twin) (at_limit le) names = record { outcome = _; runs = at_limit le; ends = both_over tt }
 
-  -- ---- the tree with the name, and without one
+  -- ---- a tree under two names
 
-  name-agree : NamesAgree n (Some n) None
-  name-agree m apart = by (bytes_eq n m) refl
+  Some-agrees : NamesAgree n (Some n) None
+  Some-agrees m apart = by (bytes_eq n m) refl
     where
       by : (b : Bool) → bytes_eq n m ≡ b → bytes_eq n m ≡ false
       by true is = absurd (apart (sym ((bytes_eq-Decides n m).0 is)))
       by false is = is
 
-  Whole-twin : (es : Elements) (positions : List Position) (s : State)
-      → Twin p n s s.current (todo (Whole first_tree (tree (Some n) es positions))) (todo (Whole first_tree (tree None es positions)))
-  unfolding ◌>>=◌ ◌>>◌
-  Whole-twin es positions s = both_get (both_set (render_elements-goes p n first_tree 0 es positions (renamed_state (Some n) s) None
-      name-agree (λ u. Done) (λ u. Done) (λ z d is. both_end is)))
-
-  -- a run of the tree without a name
-  record UnnamedRun (es : Elements) (positions : List Position) (s : State) (ps : List Piece) (o : Outcome) : Type 0 where
-    outcome : Outcome
-    runs : Means p (tree None es positions) s ps outcome
-    agrees : Agree o outcome
+  None-agrees : NamesAgree n None (Some n)
+  None-agrees m apart = sym (Some-agrees m apart)
 
   -- marking an error with a tree's name doesn't change its position
   marked-agree : (t u : Tree) (o : Outcome) → IsOver o
@@ -148,43 +140,52 @@ module _ (p : Setting) (n : Text) where
   marked-agree t u (WriteFailed f) over = (refl, named_as-position (tree_name t) (tree_name u) f.location)
   marked-agree t u NoMemory over = tt
 
-  module _ (es : Elements) (positions : List Position) (s : State) where
-    abbrev named : Task
-    named = Whole first_tree (tree (Some n) es positions)
+  -- a tree's elements under one name, or without one, and under the other
+  module _ (es : Elements) (positions : List Position) (a b : Option Text) (apart : NamesAgree n a b) (s : State) where
+    abbrev one : Tree
+    one = tree a es positions
 
-    abbrev unnamed : Task
-    unnamed = Whole first_tree (tree None es positions)
+    abbrev other : Tree
+    other = tree b es positions
 
-    ended-unnamed : {z : State} {ps : List Piece} {q : Outcome} → Runs p (todo unnamed) s ps q → Ends n (Ended z) q
-        → UnnamedRun es positions s (ps ++ []) (Ended z)
-    ended-unnamed a (both_ended is) = record { outcome = _; runs = did a done; agrees = tt }
-    ended-unnamed a (both_over over) = absurd over
+    -- a run of the other tree
+    record OtherRun (ps : List Piece) (o : Outcome) : Type 0 where
+      outcome : Outcome
+      runs : Means p other s ps outcome
+      agrees : Agree o outcome
 
-    stopped-unnamed : {z : State} {ps : List Piece} {q : Outcome} → Runs p (todo unnamed) s ps q → Ends n (Ended z) q
-        → UnnamedRun es positions s (ps ++ []) NoMemory
-    stopped-unnamed a (both_ended is) = record { outcome = NoMemory; runs = did a stop; agrees = tt }
-    stopped-unnamed a (both_over over) = absurd over
+    Whole-twin : Twin p n s s.current (todo (Whole first_tree one)) (todo (Whole first_tree other))
+    unfolding ◌>>=◌ ◌>>◌
+    Whole-twin = both_get (both_set (render_elements-goes p n first_tree 0 es positions (renamed_state a s) b apart
+        (λ u. Done) (λ u. Done) (λ z d is. both_end is)))
 
-    over-unnamed : {ps : List Piece} {o q : Outcome} → Runs p (todo unnamed) s ps q → Ends n o q → IsOver o
-        → UnnamedRun es positions s ps (mark_outcome named o)
-    over-unnamed a (both_ended is) over = absurd over
-    over-unnamed a (both_over {o = o} is) over = record {
-      outcome = mark_outcome unnamed o;
-      runs = did_over a over;
-      agrees = marked-agree (tree (Some n) es positions) (tree None es positions) o over;
+    ended-other : {z : State} {ps : List Piece} {q : Outcome} → Runs p (todo (Whole first_tree other)) s ps q → Ends n (Ended z) q
+        → OtherRun (ps ++ []) (Ended z)
+    ended-other r (both_ended is) = record { outcome = _; runs = did r done; agrees = tt }
+    ended-other r (both_over over) = absurd over
+
+    stopped-other : {z : State} {ps : List Piece} {q : Outcome} → Runs p (todo (Whole first_tree other)) s ps q → Ends n (Ended z) q
+        → OtherRun (ps ++ []) NoMemory
+    stopped-other r (both_ended is) = record { outcome = NoMemory; runs = did r stop; agrees = tt }
+    stopped-other r (both_over over) = absurd over
+
+    over-other : {ps : List Piece} {o q : Outcome} → Runs p (todo (Whole first_tree other)) s ps q → Ends n o q → IsOver o
+        → OtherRun ps (mark_outcome (Whole first_tree one) o)
+    over-other r (both_ended is) over = absurd over
+    over-other r (both_over {o = o} is) over = record {
+      outcome = mark_outcome (Whole first_tree other) o;
+      runs = did_over r over;
+      agrees = marked-agree one other o over;
     }
 
-    Means-unnamed : (ps : List Piece) (o : Outcome) (r : Means p (tree (Some n) es positions) s ps o)
-        → OtherNames (included_names r) → UnnamedRun es positions s ps o
-    Means-unnamed ps o (did a done) names =
-        let first = Runs-twin (Whole-twin es positions s) a (All-first _ (included_names a) [] names) in
-        ended-unnamed first.runs first.ends
-    Means-unnamed ps o (did a stop) names =
-        let first = Runs-twin (Whole-twin es positions s) a (All-first _ (included_names a) [] names) in
-        stopped-unnamed first.runs first.ends
-    Means-unnamed ps o (did_over a over) names =
-        let first = Runs-twin (Whole-twin es positions s) a names in over-unnamed first.runs first.ends over
-    Means-unnamed ps o stop names = record { outcome = NoMemory; runs = stop; agrees = tt }
+    Means-renamed : (ps : List Piece) (o : Outcome) (r : Means p one s ps o) → OtherNames (included_names r) → OtherRun ps o
+    Means-renamed ps o (did r done) names =
+        let first = Runs-twin Whole-twin r (All-first _ (included_names r) [] names) in ended-other first.runs first.ends
+    Means-renamed ps o (did r stop) names =
+        let first = Runs-twin Whole-twin r (All-first _ (included_names r) [] names) in stopped-other first.runs first.ends
+    Means-renamed ps o (did_over r over) names =
+        let first = Runs-twin Whole-twin r names in over-other first.runs first.ends over
+    Means-renamed ps o stop names = record { outcome = NoMemory; runs = stop; agrees = tt }
 
 -- ---- what a source compiles to, under a name and without one
 
@@ -262,23 +263,65 @@ Some≢None a b = cc
 Some-injective : {t x : Tree} {o : Option Tree} → o ≡ Some t → o ≡ Some x → t ≡ x
 Some-injective a b = cc
 
+-- one source compiles to one tree
+one_tree : (source : Text) (options : Options) {t x : Tree} → Compiles source options (compiled t)
+    → Compiles source options (compiled x) → t ≡ x
+one_tree source options a b = let same = one_compilation source options _ _ a b in cc
+
+compiled≢rejected : (source : Text) (options : Options) {t : Tree} {f : TemplateRefusal} → Compiles source options (compiled t)
+    → Compiles source options (rejected f) → ⊥
+compiled≢rejected source options a b = let same = one_compilation source options _ _ a b in cc
+
 module _ (p : Setting) (name : Text) where
+  abbrev OthersAlone : {t : Tree} {s : State} {ps : List Piece} {o : Outcome} → Means p t s ps o → Type 0
+  OthersAlone r = AllByRecursion (λ m. m ≢ name) (included_names r)
+
   -- a run of what is registered under the name, as one of the tree that the source compiles to
-  tree-agree : (source : Text) (options : Options) (t : Tree)
-      → Compiles source (record options { name = Some name }) (compiled t)
-      → (ps : List Piece) (o : Outcome) (r : Means p t (first_state p.parts.recursive) ps o)
-      → AllByRecursion (λ m. m ≢ name) (included_names r)
-      → HasAgreeingAnswer p (FromSource (record options { name = None }) source) ps o
-  tree-agree source options t (whole {ps = tokens} {es = es} c nests) ps o r names =
-      let other = Means-unnamed p name _ _ (first_state p.parts.recursive) ps o r names in record {
+  tree-unnamed : (source : Text) (options : Options) (t : Tree) → Compiles source (under_name source name options) (compiled t)
+      → (ps : List Piece) (o : Outcome) (r : Means p t (first_state p.parts.recursive) ps o) → OthersAlone r
+      → HasAgreeingAnswer p (FromSource (without_name source name options) source) ps o
+  tree-unnamed source options t (whole {ps = tokens} {es = es} c nests) ps o r names =
+      let other = Means-renamed p name _ _ (Some name) None (Some-agrees p name) (first_state p.parts.recursive) ps o r names in record {
         outcome = other.outcome;
         answers = has_begun (compiles (whole-unnamed source name options tokens es c nests)) other.runs;
         agrees = other.agrees;
       }
 
+  -- a run of the tree that the source compiles to, as one of what is registered under the name
+  tree-named : (source : Text) (options : Options) (t x : Tree) → p.parts.template name ≡ Some t
+      → Compiles source (under_name source name options) (compiled t) → Compiles source (without_name source name options) (compiled x)
+      → (ps : List Piece) (o : Outcome) (r : Means p x (first_state p.parts.recursive) ps o) → OthersAlone r
+      → HasAgreeingAnswer p (FromName p.parts.template name) ps o
+  tree-named source options t x is (whole {ps = tokens} {es = es} c nests) d ps o =
+      let same = one_tree source (without_name source name options) (whole-unnamed source name options tokens es c nests) d in
+      subst (λ (y : Tree). (r : Means p y (first_state p.parts.recursive) ps o) → OthersAlone r
+      → HasAgreeingAnswer p (FromName p.parts.template name) ps o) same (λ r names.
+      let other = Means-renamed p name _ _ None (Some name) (None-agrees p name) (first_state p.parts.recursive) ps o r names in record {
+        outcome = other.outcome;
+        answers = has_begun (is_stored is) other.runs;
+        agrees = other.agrees;
+      })
+
   pub named_answer_as_source : NamedAnswerAsSource p name
   named_answer_as_source source options t is c ps o (not_begun (is_not none)) names = absurd (Some≢None is none)
   named_answer_as_source source options t is c ps o (has_begun {t = x} (is_stored is_tree) r) names =
-      tree-agree source options x
+      tree-unnamed source options x
       (subst (λ (z : Tree). Compiles source (record options { name = Some name }) (compiled z))
       (Some-injective is is_tree) c) ps o r names
+
+  -- a source that is registered under a name isn't rejected without one
+  not-rejected : (source : Text) (options : Options) (t : Tree) (f : TemplateRefusal)
+      → Compiles source (under_name source name options) (compiled t) → Compiles source (without_name source name options) (rejected f)
+      → ⊥
+  not-rejected source options t f (whole {ps = tokens} {es = es} c nests) d =
+      compiled≢rejected source (without_name source name options) (whole-unnamed source name options tokens es c nests) d
+
+  pub source_answer_as_named : SourceAnswerAsNamed p name
+  source_answer_as_named source options t is c ps o (not_begun (does_not {r = f} d)) names =
+      absurd (not-rejected source options t f c d)
+  source_answer_as_named source options t is c ps o (has_begun {t = x} (compiles d) r) names =
+      tree-named source options t x is c d ps o r names
+
+pub agrees_by_name : (p : Setting) (options : Options) (source : Text) → AgreesByName p (record options { name = None }) source
+agrees_by_name p options source name t is c =
+    (named_answer_as_source p name source options t is c, source_answer_as_named p name source options t is c)

@@ -114,14 +114,32 @@ pub record HasAgreeingAnswer (p : Setting) (begins : Beginning → Type 0) (ps :
   pub answers : RenderAnswers p begins ps outcome
   pub agrees : Agree o outcome
 
+-- Each answer of the first, if no inclusion of its run has this name, agrees with one of the second, which has the same pieces.
+abbrev pub HaveAgreeingAnswers : Setting → Text → (Beginning → Type 0) → (Beginning → Type 0) → Type 0
+HaveAgreeingAnswers p name begins other = (ps : List Piece) (o : Outcome) (a : RenderAnswers p begins ps o)
+    → AllByRecursion (λ n. n ≢ name) (answer_names a) → HasAgreeingAnswer p other ps o
+
 -- If a name's registered tree is what a source compiles to under that name, and no inclusion of the run has that name, then
 -- the answer by the name agrees with one by the source, which has the same pieces.
 abbrev pub NamedAnswerAsSource : Setting → Text → Type 0
 NamedAnswerAsSource p name = (source : Text) (options : Options) (t : Tree) → p.parts.template name ≡ Some t
     → Compiles source (record options { name = Some name }) (compiled t)
-    → (ps : List Piece) (o : Outcome) (a : RenderAnswers p (FromName p.parts.template name) ps o)
-    → AllByRecursion (λ n. n ≢ name) (answer_names a)
-    → HasAgreeingAnswer p (FromSource (record options { name = None }) source) ps o
+    → HaveAgreeingAnswers p name (FromName p.parts.template name) (FromSource (record options { name = None }) source)
+
+-- If a name's registered tree is what a source compiles to under that name, and no inclusion of the run has that name, then
+-- the answer by the source agrees with one by the name, which has the same pieces.
+abbrev pub SourceAnswerAsNamed : Setting → Text → Type 0
+SourceAnswerAsNamed p name = (source : Text) (options : Options) (t : Tree) → p.parts.template name ≡ Some t
+    → Compiles source (record options { name = Some name }) (compiled t)
+    → HaveAgreeingAnswers p name (FromSource (record options { name = None }) source) (FromName p.parts.template name)
+
+-- Both ways, of one source and any name: where the name's registered tree is what the source compiles to under that name, the
+-- answer by the name and the one by the source agree, if no inclusion of the run has that name.
+abbrev pub AgreesByName : Setting → Options → Text → Type 0
+AgreesByName p options source = (name : Text) (t : Tree) → p.parts.template name ≡ Some t
+    → Compiles source (record options { name = Some name }) (compiled t)
+    → HaveAgreeingAnswers p name (FromName p.parts.template name) (FromSource options source)
+    × HaveAgreeingAnswers p name (FromSource options source) (FromName p.parts.template name)
 
 -- ---- what doesn't matter
 
@@ -131,8 +149,9 @@ pub record AnswerStays (p : Setting) (begins : Beginning → Type 0) : Type 0 wh
   pub larger : SameAnswerUnderLarger p begins
   pub others : AnswerOnlyByNames p begins
 
--- So does an answer by a name; and it agrees with one by the source that is registered there.
+-- So does an answer by a name; and it agrees with one by the source that is registered there, both ways.
 pub record NamedAnswerStays (p : Setting) (name : Text) : Type 0 where
   pub larger : SameAnswerUnderLarger p (FromName p.parts.template name)
   pub others : NamedAnswerOnlyByNames p name
   pub source : NamedAnswerAsSource p name
+  pub named : SourceAnswerAsNamed p name
