@@ -18,7 +18,7 @@ use Rattle.handlebars_laws.proofs.RunLaws.{Runs-prefix}
 use Rattle.handlebars_render.specs.View.{Answered, RefinesSteps, MatchesOutcome, ended, refusal, write_error, no_memory, holding_of_pieces}
 use Rattle.handlebars_render.proofs.Refinement.{moment_at, memory_or}
 use Rattle.handlebars.specs.Calls.{BeginsWith}
-use Rattle.handlebars.specs.PieceCalls.{AreFirstOfAnswer, EmitsPieces, WereEmitted, all_emitted as emitted_all, emitted_before_refusal, output_failed, emitted_before_memory}
+use Rattle.handlebars.specs.PieceCalls.{AreFirstOfAnswer, EmitsPieces, WereEmitted, all_emitted as emitted_all, emitted_before_error, output_failed, emitted_before_memory}
 use Rattle.handlebars.proofs.AnswerLaws.{IsOne, a_tree-injective, a_tree≢no_tree}
 use Rattle.handlebars.proofs.Writing.{RenderAnswers-map}
 
@@ -32,7 +32,7 @@ module _ (p : Setting) {B C : Beginning → Type 0} (to : (b : Beginning) → B 
   EmitsPieces-map : {may : Error → Type 0} {before after : List Emitted} {r : Answered} → EmitsPieces p B may before after r
       → EmitsPieces p C may before after r
   EmitsPieces-map (emitted_all a w) = emitted_all (RenderAnswers-map p to a) w
-  EmitsPieces-map (emitted_before_refusal a w) = emitted_before_refusal (RenderAnswers-map p to a) w
+  EmitsPieces-map (emitted_before_error a w) = emitted_before_error (RenderAnswers-map p to a) w
   EmitsPieces-map (output_failed cause f given a reports are w) =
       output_failed cause f given (RenderAnswers-map p to a) reports (AreFirstOfAnswer-map _ are) w
   EmitsPieces-map (emitted_before_memory memory are w) = emitted_before_memory memory (AreFirstOfAnswer-map _ are) w
@@ -55,7 +55,7 @@ module _ (p : Setting) (lawful : IsLawful p.parts) (t : Tree) where
       {next : State} → Means p t (first_state p.parts.recursive) ps o → MatchesOutcome may i j o r next
       → WereEmitted before ps after → EmitsPieces p (BeginsWith t) may before after r
   emits_outcome m (ended same) w = emitted_all (has_begun refl m) w
-  emits_outcome m (refusal same) w = emitted_before_refusal (has_begun refl m) w
+  emits_outcome m (refusal same) w = emitted_before_error (has_begun refl m) w
   emits_outcome m (write_error cause f given count reports) w = output_failed cause f given (has_begun refl m) reports (stop_is_first m tt) w
   emits_outcome m (no_memory same is) w = emitted_before_memory is (stop_is_first m tt) w
 
@@ -79,14 +79,14 @@ module _ (p : Setting) (begins : Beginning → Type 0) (may : Error → Type 0) 
   emits_no_memory : (e : RenderError) (ts : List Emitted) → reason_in e ≡ out_of_memory → EmitsPieces p begins may ts ts (Err e)
   emits_no_memory e ts memory = emitted_before_memory memory nothing_is_first (nothing_emitted ts)
 
-  emits_refused : (q : Refusal) (e : RenderError) (ts : List Emitted) → begins (no_tree q) → refusal_of e ≡ q → EmitsPieces p begins may ts ts (Err e)
-  emits_refused q e ts b is =
-      emitted_before_refusal (subst (λ (z : Refusal). RenderAnswers p begins [] (Failed z)) (sym is) (not_begun b)) (nothing_emitted ts)
+  emits_failed : (q : Refusal) (e : RenderError) (ts : List Emitted) → begins (no_tree q) → refusal_of e ≡ q → EmitsPieces p begins may ts ts (Err e)
+  emits_failed q e ts b is =
+      emitted_before_error (subst (λ (z : Refusal). RenderAnswers p begins [] (Failed z)) (sym is) (not_begun b)) (nothing_emitted ts)
 
   pub emits_if : (q : Refusal) (e : RenderError) (ts : List Emitted) → begins (no_tree q) → IsRefusal q e → EmitsPieces p begins may ts ts (Err e)
   emits_if q e ts b is = elim (memory_or (reason_in e)) [
     | inl memory ↦ emits_no_memory e ts memory
-    | inr other ↦ emits_refused q e ts b (is other)
+    | inr other ↦ emits_failed q e ts b (is other)
   ]
 
   -- out of memory alone

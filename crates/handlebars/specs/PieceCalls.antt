@@ -32,7 +32,7 @@ module _ (p : Setting) (begins : Beginning → Type 0) where
   pub data EmitsPieces (may : Error → Type 0) (before after : List Emitted) : Answered → Type 0 where
     all_emitted : {ps : List Piece} {last : State} {u : Unit {0}} → RenderAnswers p begins ps (Ended last)
         → WereEmitted before ps after → EmitsPieces may before after (Ok u)
-    emitted_before_refusal : {ps : List Piece} {e : RenderError} → RenderAnswers p begins ps (Failed (refusal_of e))
+    emitted_before_error : {ps : List Piece} {e : RenderError} → RenderAnswers p begins ps (Failed (refusal_of e))
         → WereEmitted before ps after → EmitsPieces may before after (Err e)
     output_failed : {ps : List Piece} {e : RenderError} (cause : Error) (f : WriteError) → may cause
         → RenderAnswers p begins ps (WriteFailed f) → ReportsWriteError cause f e → AreFirstOfAnswer ps → WereEmitted before ps after

@@ -18,7 +18,7 @@ use Rattle.handlebars_helpers.specs.UserView.{callee_of}
 use Rattle.handlebars_helpers.specs.View.{built_in_kind}
 use Rattle.handlebars_helpers.specs.declared.built_in.BuiltIn.{BuiltIn}
 use Rattle.handlebars_helpers.specs.declared.user.Callee as declared
-use Rattle.handlebars_helpers.specs.declared.user.Callee.TheVariants.{Built, Own}
+use Rattle.handlebars_helpers.specs.declared.user.Callee.TheVariants.{Built, User}
 use Rattle.handlebars_template.specs.Tree.{Call}
 use Rattle.handlebars_semantics.specs.Execute.{view_with_bodies}
 use Rattle.handlebars_semantics.specs.Asks.{goes_on, first_fails}
@@ -43,7 +43,7 @@ local_call-there seen parts o l name h r is a =
 pub callee-built : (name : Text) (k : declared.Callee) (kind : BuiltIn) → k ≡ Built kind → built (built_in_kind kind) ≡ callee_of name k
 callee-built name k kind is = ap (callee_of name) (sym is)
 
-pub callee-user : (asked : Option (CowStr Global)) (c : CallView) (k : declared.Callee) (t : Text) (h : HelperView) → k ≡ Own
+pub callee-user : (asked : Option (CowStr Global)) (c : CallView) (k : declared.Callee) (t : Text) (h : HelperView) → k ≡ User
     → t ≡ unwrap_or (option_map cow_str_bytes asked) h.call.name → h.call ≡ c
     → user t ≡ callee_of (unwrap_or (option_map cow_str_bytes asked) c.name) k
 callee-user asked c k t h is named same =

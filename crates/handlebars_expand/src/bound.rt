@@ -92,12 +92,12 @@ pub fn bind<'a, P: Registered>(
             call,
         }),
         Target::Named => Ok(BoundCall {
-            callee: Callee::Own,
+            callee: Callee::User,
             asked_by: None,
             call,
         }),
         Target::Hooked => Ok(BoundCall {
-            callee: Callee::Own,
+            callee: Callee::User,
             asked_by: Some(CowStr::Borrowed(hook(block))),
             call,
         }),

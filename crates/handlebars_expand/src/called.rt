@@ -274,7 +274,7 @@ fn bound_value<'a, 'c, P: Registered>(
     let view = call.in_parentheses(helper);
     match callee {
         Callee::Built(kind) => built_value(environment, kind, &view),
-        Callee::Own => user_value(environment, rc, asked_name(&asked_by, &view), &view),
+        Callee::User => user_value(environment, rc, asked_name(&asked_by, &view), &view),
     }
 }
 

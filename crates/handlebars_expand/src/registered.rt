@@ -155,7 +155,7 @@ pub fn named(callee: Callee) -> Target
 {
     match callee {
         Callee::Built(kind) => Target::Built(kind),
-        Callee::Own => Target::Named,
+        Callee::User => Target::Named,
     }
 }
 
@@ -165,7 +165,7 @@ pub fn hooked(callee: Callee) -> Target
 {
     match callee {
         Callee::Built(kind) => Target::Built(kind),
-        Callee::Own => Target::Hooked,
+        Callee::User => Target::Hooked,
     }
 }
 

@@ -32,7 +32,7 @@ tag_view d = record {
 -- what is registered under this name
 abbrev pub decorator_called : Text → declared.DecoratorKind → DecoratorKind
 decorator_called name kind.Inline = kind_inline
-decorator_called name kind.Own = kind_user name
+decorator_called name kind.User = kind_user name
 
 abbrev pub action_of : DecoratorStep → Action
 action_of (SetContext c) = sets_data (data_of c)

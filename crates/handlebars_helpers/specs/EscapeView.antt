@@ -8,12 +8,12 @@ use Rattle.handlebars_helpers.specs.Escaping.{UserEscape, for_html, for_plain, b
 use Rattle.handlebars_helpers.specs.declared.escape.EscapeKindOf.{EscapeKindOf}
 use Rattle.handlebars_helpers.specs.declared.escape.EscapeKindOf.TheVariants as kind
 use Rattle.handlebars_helpers.specs.declared.escape.Escaping.{Escaping}
-use Rattle.handlebars_helpers.specs.declared.escape.Escaping.TheVariants.{Html, Plain, Own}
+use Rattle.handlebars_helpers.specs.declared.escape.Escaping.TheVariants.{Html, Plain, User}
 
 abbrev pub escaping_of : Escaping → plain.Escaping
 escaping_of Html = for_html
 escaping_of Plain = for_plain
-escaping_of Own = by_user
+escaping_of User = by_user
 
 module _ {X : Type 0} where
   -- how the registered kind escapes

@@ -12,7 +12,7 @@ pub mod Escaping
 pub mod EscapeView
 pub mod Marks
 pub mod UserView
-pub mod FnRefusals
+pub mod FnErrors
 pub mod Functions
 pub mod ByNameView
 pub mod EntryView

@@ -15,7 +15,7 @@ use Rattle.handlebars_helpers.specs.Callee as plain
 use Rattle.handlebars_helpers.specs.UserHelper.{HelperQuestion, Step, writes, renders_body, renders_inverse, renders_body_in, Offer, not_offered, offers_missing, offers}
 use Rattle.handlebars_helpers.specs.View.{helper_view, built_in_kind}
 use Rattle.handlebars_helpers.specs.declared.user.Callee.{Callee}
-use Rattle.handlebars_helpers.specs.declared.user.Callee.TheVariants.{Built, Own}
+use Rattle.handlebars_helpers.specs.declared.user.Callee.TheVariants.{Built, User}
 use Rattle.handlebars_helpers.specs.declared.user.LocalHelper as declared
 use Rattle.handlebars_helpers.specs.declared.user.HelperStep.{HelperStep}
 use Rattle.handlebars_helpers.specs.declared.user.HelperStep.TheVariants.{Write, Body, Inverse, BodyIn}
@@ -26,7 +26,7 @@ use Rattle.handlebars_helpers.specs.declared.view.Helper.{Helper}
 -- what is registered under this name
 abbrev pub callee_of : Text → Callee → plain.Callee
 callee_of name (Built b) = plain.built (built_in_kind b)
-callee_of name Own = plain.user name
+callee_of name User = plain.user name
 
 abbrev pub local_of : declared.LocalHelper → plain.LocalHelper
 local_of l = record { registered = string_bytes l.registered; constants = map view l.constants.items }

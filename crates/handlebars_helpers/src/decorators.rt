@@ -25,7 +25,7 @@ pub enum DecoratorKind {
     /// `inline`.
     Inline,
     /// A user-defined decorator, which is called by that name.
-    Own,
+    User,
 }
 
 /// An action of a decorator.

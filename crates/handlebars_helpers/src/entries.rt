@@ -177,8 +177,8 @@ impl<B: HelperPart, F: HelperPart, D: DecoratorPart, G: DecoratorPart, X: Escape
     fn helper(&self, name: &str) -> Option<Callee> {
         match self.helpers.get(name) {
             Some(HelperEntryOf::Built(kind)) => Some(Callee::Built(*kind)),
-            Some(HelperEntryOf::Own(_)) => Some(Callee::Own),
-            Some(HelperEntryOf::Function(_)) => Some(Callee::Own),
+            Some(HelperEntryOf::Own(_)) => Some(Callee::User),
+            Some(HelperEntryOf::Function(_)) => Some(Callee::User),
             None => None,
         }
     }
@@ -186,8 +186,8 @@ impl<B: HelperPart, F: HelperPart, D: DecoratorPart, G: DecoratorPart, X: Escape
     fn decorator(&self, name: &str) -> Option<DecoratorKind> {
         match self.decorators.get(name) {
             Some(DecoratorEntryOf::Inline) => Some(DecoratorKind::Inline),
-            Some(DecoratorEntryOf::Own(_)) => Some(DecoratorKind::Own),
-            Some(DecoratorEntryOf::Function(_)) => Some(DecoratorKind::Own),
+            Some(DecoratorEntryOf::Own(_)) => Some(DecoratorKind::User),
+            Some(DecoratorEntryOf::Function(_)) => Some(DecoratorKind::User),
             None => None,
         }
     }

@@ -31,7 +31,7 @@ pub type EscapeKind = EscapeKindOf<Box<dyn EscapeFn>>;
 pub enum Escaping {
     Html,
     Plain,
-    Own,
+    User,
 }
 
 impl<X> EscapeKindOf<X> {
@@ -42,7 +42,7 @@ impl<X> EscapeKindOf<X> {
         match self {
             EscapeKindOf::Html => Escaping::Html,
             EscapeKindOf::Plain => Escaping::Plain,
-            EscapeKindOf::Own(_) => Escaping::Own,
+            EscapeKindOf::Own(_) => Escaping::User,
         }
     }
 }

@@ -14,7 +14,7 @@ use handlebars_scope::block::BlockContext;
 pub enum Callee {
     Built(BuiltIn),
     /// A user-defined helper, which is called by that name.
-    Own,
+    User,
 }
 
 /// A local helper: the name that its calls go to, and the values that are passed before their parameters.

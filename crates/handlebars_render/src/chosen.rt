@@ -83,7 +83,7 @@ pub fn settle_choice<'v, O, T: OutputMode<O>, P: Registered>(
                 Err(e) => Err(BoxedError::new(environment.alloc, e)),
             }
         }
-        Callee::Own => {
+        Callee::User => {
             match choose_by_user(environment, rc, asked_name(asked_by, view), view) {
                 Ok(choice) => settle_user_choice(environment, choice, rc, sink),
                 Err(e) => Err(BoxedError::new(environment.alloc, e)),

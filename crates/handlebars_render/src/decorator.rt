@@ -53,7 +53,7 @@ fn decorate<P: Registered>(
 {
     match environment.parts.decorator(tag.name()) {
         Some(DecoratorKind::Inline) => decorate_inline(tag, environment, rc),
-        Some(DecoratorKind::Own) => decorate_by_user(tag, environment, rc),
+        Some(DecoratorKind::User) => decorate_by_user(tag, environment, rc),
         None => Err(unknown_decorator(environment.alloc, tag.name())),
     }
 }

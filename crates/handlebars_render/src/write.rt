@@ -169,7 +169,7 @@ fn entities_by(escaping: Escaping, escapes: bool) -> Option<bool>
     match escaping {
         Escaping::Html => Some(escapes),
         Escaping::Plain => Some(false),
-        Escaping::Own => { if escapes { None } else { Some(false) } }
+        Escaping::User => { if escapes { None } else { Some(false) } }
     }
 }
 

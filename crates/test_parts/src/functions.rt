@@ -4,7 +4,7 @@ ghost use Rattle.std.specs.Prelude.{◌≡◌, ◌++◌, ◌∷◌, [], MatchRes
 ghost use Rattle.handlebars_base.specs.Reasons.{out_of_memory};
 ghost use Rattle.handlebars_helpers.specs.Decoration.{binds};
 ghost use Rattle.handlebars_helpers.specs.DecoratorsView.{actions_view};
-ghost use Rattle.handlebars_helpers.specs.FnRefusals.{fn_reason};
+ghost use Rattle.handlebars_helpers.specs.FnErrors.{fn_reason};
 ghost use Rattle.handlebars_helpers.specs.UserHelper.{writes};
 ghost use Rattle.handlebars_helpers.specs.UserView.{steps_of};
 ghost use Rattle.handlebars_helpers.specs.View.{helper_view};

@@ -3,7 +3,7 @@
 ghost use Rattle.std.specs.Prelude.{◌≡◌, ◌≢◌, Some, None, option_map, string_bytes, IfOk, IfSome};
 ghost use Rattle.std.specs.IoError.{error_kind};
 ghost use Rattle.handlebars_base.specs.Bytes.{Text};
-ghost use Rattle.handlebars_base.specs.Reasons.{Reason, out_of_memory, io_error, utf8_error, serde_error, of_template, other, missing_variable, nested_error};
+ghost use Rattle.handlebars_base.specs.Reasons.{Reason, nowhere, out_of_memory, io_error, utf8_error, serde_error, of_template, other, missing_variable, nested_error};
 
 use crate::error::{TemplateError, TemplateErrorReason};
 use std::alloc::{AllocError, AllocFailed, Global};
@@ -178,12 +178,13 @@ impl RenderError {
     }
 
     /// Sets the name of a template, if none is known yet. If there is no memory for a copy of it, the reason becomes
-    /// `OutOfMemory`.
+    /// `OutOfMemory`, and the error has no position and no name.
     pub fn in_template(self, alloc: Global, name: &String) -> RenderError
         ensures named { reason_in result ≢ out_of_memory
             → location_of result ≡ name_if_none (string_bytes name.now) (location_of self) }
         ensures cause { reason_in result ≢ out_of_memory → cause_of result ≡ cause_of self }
         ensures memory { reason_in self ≡ out_of_memory → reason_in result ≡ out_of_memory }
+        ensures bare { reason_in self ≢ out_of_memory → reason_in result ≡ out_of_memory → location_of result ≡ nowhere }
     {
         if self.template_name.is_some() {
             return self;

@@ -7,11 +7,11 @@ ghost use Rattle.handlebars_helpers.specs.Functions.{AnswersAt, AnswersOnceAt, A
 use crate::decorators::entry::DecoratorPart;
 use crate::decorators::view::Decorator;
 use crate::decorators::{DecoratorResult, DecoratorStep};
-use crate::refusal::FnRefusal;
+use crate::fn_error::FnError;
 use handlebars_scope::context::Context;
 
 /// What a function returns in place of `DecoratorDef::call`.
-pub type FnActions = Result<Vec<DecoratorStep>, FnRefusal>;
+pub type FnActions = Result<Vec<DecoratorStep>, FnError>;
 
 /// A function in place of `DecoratorDef::call`.
 pub type DecoratorFn = Box<dyn Fn(&Decorator, &Context, &Option<&Context>, bool) -> FnActions>;

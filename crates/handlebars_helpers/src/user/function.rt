@@ -6,7 +6,7 @@ ghost use Rattle.handlebars_helpers.specs.Functions.{AnswersAt, AnswersOnceAt, A
 ghost use Rattle.handlebars_helpers.specs.UserHelper.{not_offered};
 ghost use Rattle.handlebars_helpers.specs.UserView.{helper_question_of, steps_of};
 
-use crate::refusal::FnRefusal;
+use crate::fn_error::FnError;
 use crate::user::entry::HelperPart;
 use crate::user::{HelperResult, HelperStep, HelperValue};
 use crate::view::Helper;
@@ -14,7 +14,7 @@ use handlebars_base::error::RenderError;
 use handlebars_scope::context::Context;
 
 /// What a function returns in place of `HelperDef::call`.
-pub type FnSteps = Result<Option<Vec<HelperStep>>, FnRefusal>;
+pub type FnSteps = Result<Option<Vec<HelperStep>>, FnError>;
 
 /// A function in place of `HelperDef::call`.
 pub type HelperFn = Box<dyn Fn(&Helper, &Context, &Option<&Context>, bool) -> FnSteps>;

@@ -51,7 +51,7 @@ fn is_blind_callee(callee: Callee) -> bool
 {
     match callee {
         Callee::Built(kind) => is_blind(kind),
-        Callee::Own => false,
+        Callee::User => false,
     }
 }
 
@@ -60,7 +60,7 @@ fn is_blind_decorator(kind: DecoratorKind) -> bool
 {
     match kind {
         DecoratorKind::Inline => true,
-        DecoratorKind::Own => false,
+        DecoratorKind::User => false,
     }
 }
 

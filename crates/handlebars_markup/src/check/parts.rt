@@ -25,7 +25,7 @@ pub fn check_escape(
     match escaping {
         Escaping::Html => Ok(()),
         Escaping::Plain => push_nowhere(alloc, Cause::OtherEscape, faults),
-        Escaping::Own => push_nowhere(alloc, Cause::OtherEscape, faults),
+        Escaping::User => push_nowhere(alloc, Cause::OtherEscape, faults),
     }
 }
 

@@ -29,6 +29,6 @@ returns-clause-value g c = λ captured.
     let seen = c.in_parentheses-view.ensures ∙ ap (λ x. view_without_bodies b (called_view x.2)) parts in
     yields-for (setting_in g.P.Registered.parts c.args.environment.now) (state_with captured c.args.rc.now)
     (view_without_bodies b (called_view c.args.bound.call)) found_of (callee_in c.args.bound) (answer_of c.user_value.result)
-    (callee-user c.args.bound.asked_by (called_view c.args.bound.call) c.args.bound.callee _ (helper_view c.in_parentheses-view.result) (ap (λ x. x.0) (sym parts) ∙ c.in-Own.is)
+    (callee-user c.args.bound.asked_by (called_view c.args.bound.call) c.args.bound.callee _ (helper_view c.in_parentheses-view.result) (ap (λ x. x.0) (sym parts) ∙ c.in-User.is)
     (rw parts at c.asked_name.ensures) (ap (λ (h : HelperView). h.call) seen))
     seen (c.user_value.ensures.value captured)

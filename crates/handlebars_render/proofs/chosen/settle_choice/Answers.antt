@@ -21,14 +21,14 @@ returns-in-Err-clause-leads g c = rw c.in-Built.is (λ occurrence location targe
     (λ other. chooses _ (sym (rw c.strict.ensures at (c.in-Err.ensures other))))))
 
 pub returns-in-Ok-choose_by_user-clause-leads : goal.returns-in-Ok-choose_by_user-clause-leads
-returns-in-Ok-choose_by_user-clause-leads g c = rw c.in-Own.is (λ occurrence location target v captured chooses.
+returns-in-Ok-choose_by_user-clause-leads g c = rw c.in-User.is (λ occurrence location target v captured chooses.
     let h = view_with_bodies c.args.block (call_view c.args.helper.now) v in
     leads-choice _ _ occurrence target h _ (render_rest occurrence h) (answer_of c.settle_user_choice.result) _ _ _
     (chooses _ (rw c.asked_name.ensures at (c.in-Ok-choose_by_user.ensures captured)))
     (c.settle_user_choice.ensures.leads occurrence location c.args.block (call_view c.args.helper.now) v captured))
 
 pub returns-in-Err-choose_by_user-clause-leads : goal.returns-in-Err-choose_by_user-clause-leads
-returns-in-Err-choose_by_user-clause-leads g c = rw c.in-Own.is (λ occurrence location target v captured chooses.
+returns-in-Err-choose_by_user-clause-leads g c = rw c.in-User.is (λ occurrence location target v captured chooses.
     let h = view_with_bodies c.args.block (call_view c.args.helper.now) v in
     refines_prog-propagated _ _ c.in-Err-choose_by_user.e (error_of c.new-in-Err-choose_by_user.result) c.new-in-Err-choose_by_user.ensures
     (leads-failed _ _ occurrence target h c.in-Err-choose_by_user.e

@@ -17,11 +17,11 @@ returns-in-Some-Inline-clause-does g c = λ captured.
     (ap (decorator_or_refusal v.call.name) (rw c.name.ensures at (rw c.in-Some-Inline.field-0-is at c.in-Some-Inline.ensures)))
     (c.decorate_inline.ensures.does captured)
 
-pub returns-in-Some-Own-clause-does : goal.returns-in-Some-Own-clause-does
-returns-in-Some-Own-clause-does g c = λ captured.
+pub returns-in-Some-User-clause-does : goal.returns-in-Some-User-clause-does
+returns-in-Some-User-clause-does g c = λ captured.
     let v = tag_view c.args.tag.now in
     does-asked (setting_in g.P.Registered.parts c.args.environment.now) (decorator_of v.call.name) (kind_user v.call.name) (λ kind. decorate_by kind v) (state_with captured c.args.rc.now) (state_with captured c.decorate_by_user.new.rc) (answer_of c.decorate_by_user.result)
-    (ap (decorator_or_refusal v.call.name) (rw c.name.ensures at (rw c.in-Some-Own.field-0-is at c.in-Some-Own.ensures)))
+    (ap (decorator_or_refusal v.call.name) (rw c.name.ensures at (rw c.in-Some-User.field-0-is at c.in-Some-User.ensures)))
     (c.decorate_by_user.ensures.does captured)
 
 pub returns-in-None-clause-does : goal.returns-in-None-clause-does

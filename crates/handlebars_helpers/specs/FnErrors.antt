@@ -3,10 +3,10 @@ use Rattle.std.specs.IoError.{error_kind}
 use Rattle.std.specs.Prelude.{option_map, string_bytes}
 use Rattle.handlebars_base.specs.Reasons.{Reason, of_template, template_not_found, missing_variable, partial_not_found, partial_block_not_found, helper_not_found, decorator_not_found, cannot_include_self, invalid_logging_level, block_content_required, invalid_json_path, invalid_json_index, serde_error, io_error, utf8_error, nested_error, unimplemented, other, inclusion_limit, invalid_number, failed, out_of_memory}
 use Rattle.handlebars_base.specs.TemplateRefusals.{template_refusal_of}
-use Rattle.handlebars_helpers.specs.declared.refusal.FnRefusal.{FnRefusal}
-use Rattle.handlebars_helpers.specs.declared.refusal.FnRefusal.TheVariants.{TemplateNotFound, TemplateError, MissingVariable, PartialNotFound, PartialBlockNotFound, HelperNotFound, DecoratorNotFound, CannotIncludeSelf, InvalidLoggingLevel, BlockContentRequired, InvalidJsonPath, InvalidJsonIndex, SerdeError, IOError, Utf8Error, NestedError, Unimplemented, Other, InclusionLimit, InvalidNumber, Failed, OutOfMemory}
+use Rattle.handlebars_helpers.specs.declared.fn_error.FnError.{FnError}
+use Rattle.handlebars_helpers.specs.declared.fn_error.FnError.TheVariants.{TemplateNotFound, TemplateError, MissingVariable, PartialNotFound, PartialBlockNotFound, HelperNotFound, DecoratorNotFound, CannotIncludeSelf, InvalidLoggingLevel, BlockContentRequired, InvalidJsonPath, InvalidJsonIndex, SerdeError, IOError, Utf8Error, NestedError, Unimplemented, Other, InclusionLimit, InvalidNumber, Failed, OutOfMemory}
 
-abbrev pub fn_reason : FnRefusal → Reason
+abbrev pub fn_reason : FnError → Reason
 fn_reason (TemplateNotFound name) = template_not_found (string_bytes name)
 fn_reason (TemplateError cause) = of_template (template_refusal_of cause)
 fn_reason (MissingVariable path) = missing_variable (option_map string_bytes path)
