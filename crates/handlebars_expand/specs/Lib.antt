@@ -1,4 +1,5 @@
 pub mod PiecesView
+pub mod Received
 pub mod View
 pub mod Boxed
 pub mod Targets

@@ -1,11 +1,11 @@
 //! What is emitted with each piece of a rendering's text: its kind, and its origin.
 
-ghost use Rattle.std.specs.Prelude.{◌≡◌, ◌++◌, ◌∷◌, [], IfErr, List, None, OnErr, OnOk};
+ghost use Rattle.std.specs.Prelude.{◌≡◌, [], IfErr, None, OnErr, OnOk};
 ghost use Rattle.std.specs.declared.io.Error.{Error};
 ghost use Rattle.handlebars_helpers.specs.View.{path_view};
 ghost use Rattle.handlebars_semantics.specs.Occurrences.{the_first};
-ghost use Rattle.handlebars_semantics.specs.Emitted.{Emitted};
 ghost use Rattle.handlebars_expand.specs.PiecesView.{kind_name, kind_seen, path_seen, location_seen, emitted_seen};
+ghost use Rattle.handlebars_expand.specs.Received.{Received, IsAccepted, IsRejected};
 
 use handlebars_scope::context::full_path::FullPath;
 use handlebars_template::template::TemplateMapping;
@@ -102,8 +102,8 @@ pub fn full_path(names: Option<&Vec<String>>) -> Option<FullPath<'_>>
 
 /// An output that receives each piece of a rendering's text, in order.
 pub trait PieceOutput {
-    // The pieces that it has received.
-    ghost emitted: { Self → List Emitted };
+    // The pieces that it has received, and how many errors it has returned.
+    ghost received: { Self → Received };
 
     // The errors that it may return: any, unless an implementation restricts them.
     ghost may_give: { Error → Type 0 } = { λ _. Unit {0} };
@@ -112,9 +112,10 @@ pub trait PieceOutput {
     ///
     /// # Errors
     ///
-    /// Returns an error if the output rejects the piece. Such a piece counts as not emitted.
+    /// Returns an error if the output rejects the piece. Such a piece counts as not emitted. The error ends the rendering:
+    /// no further piece is passed.
     fn piece(&mut self, text: &str, origin: &Origin<'_>) -> Result<(), io::Error>
-        ensures ok { OnOk result (emitted self.new ≡ emitted self.old ++ emitted_seen text.now origin.now ∷ []) }
-        ensures err { OnErr result (emitted self.new ≡ emitted self.old) }
+        ensures ok { OnOk result (IsAccepted (emitted_seen text.now origin.now) (received self.old) (received self.new)) }
+        ensures err { OnErr result (IsRejected (received self.old) (received self.new)) }
         ensures given { IfErr result may_give };
 }

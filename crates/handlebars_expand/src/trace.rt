@@ -1,18 +1,18 @@
-//! The trace of an output: what it was given. It exists in proofs alone: at run time it has no bytes, and nothing is stored.
+//! The trace of an output: what it has received. It exists in proofs alone: at run time it has no bytes, and nothing is stored.
 
-ghost use Rattle.std.specs.Prelude.{◌≡◌, ◌++◌, ◌∷◌, [], List};
+ghost use Rattle.std.specs.Prelude.{◌≡◌};
 ghost use Rattle.std.specs.Borrow.{ftrue};
-ghost use Rattle.handlebars_semantics.specs.Emitted.{Emitted};
 ghost use Rattle.handlebars_expand.specs.PiecesView.{emitted_seen};
+ghost use Rattle.handlebars_expand.specs.Received.{Received, nothing_received, with_error, with_piece};
 
 use crate::pieces::Origin;
 use std::marker::Model;
 
-/// The pieces that a `PieceOutput` was given, for one that has them in no other form: a field of this type is its ghost
-/// `emitted`.
+/// What a `PieceOutput` has received: the pieces, and how many errors it has returned. For one that has this in no other form:
+/// a field of this type is its ghost `received`.
 #[derive(Drop)]
 pub struct Trace {
-    pub ghost emitted: { List Emitted },
+    pub ghost received: { Received },
 }
 
 impl Model for Trace {
@@ -22,14 +22,21 @@ impl Model for Trace {
 impl Trace {
     /// Returns the empty trace.
     pub fn nothing() -> Trace
-        ensures { result.emitted ≡ [] }
+        ensures { result.received ≡ nothing_received }
     {
         Trace {}
     }
 
     /// Returns the trace with this piece appended, by the bytes of its text.
     pub fn and(&self, _text: &[u8], _origin: &Origin<'_>) -> Trace
-        ensures { result.emitted ≡ self.now.emitted ++ emitted_seen _text.now _origin.now ∷ [] }
+        ensures { result.received ≡ with_piece (emitted_seen _text.now _origin.now) self.now.received }
+    {
+        Trace {}
+    }
+
+    /// Returns the trace with one more error.
+    pub fn and_error(&self) -> Trace
+        ensures { result.received ≡ with_error self.now.received }
     {
         Trace {}
     }

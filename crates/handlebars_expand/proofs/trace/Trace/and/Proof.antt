@@ -29,6 +29,7 @@ use denote.Triple.Walked.{says, Stays, stay_dropped, walk_of, ends_at, walk_Meet
 use Rattle.handlebars_expand.proofs.TraceWalks.{empty_struct, none_made}
 use Rattle.handlebars_expand.specs.contracts.trace.Trace as Trace
 use Rattle.handlebars_expand.specs.PiecesView.{emitted_seen}
+use Rattle.handlebars_expand.specs.Received.{with_piece}
 use Rattle.handlebars_expand.specs.contracts.pieces.Origin as Origin
 use Rattle.handlebars_expand.specs.contracts.trace.Trace.and as F
 use Rattle.handlebars_expand.specs.contracts.trace.Trace.and.Key.{name as #self}
@@ -64,7 +65,7 @@ module _ {M : Type 1} {𝓤 : Ura M} (𝓛 : Logic 𝓤) (at_mem : Memory → SP
         let u : Val = vptr a.0.ref_ptr.0 a.0.ref_ptr.1 in
         let v : Val = slice_val (a.1.0.ref_ptr.0, a.1.0.ref_ptr.1) (length a.1.0.now) in
         let w : Val = vptr a.1.1.0.ref_ptr.0 a.1.1.0.ref_ptr.1 in
-        let made : (Trace.the_row).Denot = record { emitted = a.0.now.emitted ++ emitted_seen a.1.0.now a.1.1.0.now ∷ [] } in
+        let made : (Trace.the_row).Denot = record { received = with_piece (emitted_seen a.1.0.now a.1.1.0.now) a.0.now.received } in
         qed 𝓛 ((raw toks ⊛ ‵ (owns (types_at ended.signature.params z.0.0) a vss)) ∷ raw ((held z.0.0 a).requires z.1) ∷ []) ∵
         keep ! (0 ∷ []) $ split ! $ move ! (1 ∷ []) $ fsplit ! $ fsplit ! $ feq_l ! (λ is₀. drop ! $
         fsplit ! $ fsplit ! $ fsplit ! $ feq_l ! (λ is₁. fsplit ! $ flt_l ! (λ count. flt_l ! (λ size. drop ! $

@@ -24,6 +24,7 @@ use denote.Triple.Spec.{Meets, triple_of}
 use denote.Triple.Table.{entered}
 use denote.Triple.Walked.{says, Stays, walk_of, ends_at, walk_Meets}
 use Rattle.handlebars_expand.proofs.TraceWalks.{empty_struct, none_made}
+use Rattle.handlebars_expand.specs.Received.{nothing_received}
 use Rattle.handlebars_expand.specs.contracts.trace.Trace as Trace
 use Rattle.handlebars_expand.specs.contracts.trace.Trace.nothing as F
 use Rattle.handlebars_expand.specs.contracts.trace.Trace.nothing.Key.{name as #self}
@@ -56,7 +57,7 @@ module _ {M : Type 1} {𝓤 : Ura M} (𝓛 : Logic 𝓤) (at_mem : Memory → SP
     walks =
         let a = z.0.3 in
         let vss = z.0.4 in
-        let made : (Trace.the_row).Denot = record { emitted = [] } in
+        let made : (Trace.the_row).Denot = record { received = nothing_received } in
         qed 𝓛 ((raw toks ⊛ ‵ (owns (types_at ended.signature.params z.0.0) a vss)) ∷ raw ((held z.0.0 a).requires z.1) ∷ []) ∵
         keep ! (0 ∷ []) $ split ! $ move ! (1 ∷ []) $ drop ! $
         enter ! C Λ function [] Post $ alloc_all ! (λ l. pass_all ! refl tt $
