@@ -73,10 +73,10 @@ item_occurrence = element_in (body_at block_occurrence (as_part 0)) 1 (Some (at 
 
 -- an element of the layout, and one of the partial, by its index, its line and its column
 abbrev pub in_layout : ℕ → ℕ → ℕ → Occurrence
-in_layout i line column = element_in (included_at block_occurrence layout_tree) i (Some (at line column))
+in_layout i line column = element_in (included_at block_occurrence (Some (codes "page")) layout_tree) i (Some (at line column))
 
 abbrev pub in_item : ℕ → ℕ → ℕ → Occurrence
-in_item i line column = element_in (included_at item_occurrence item_tree) i (Some (at line column))
+in_item i line column = element_in (included_at item_occurrence (Some (codes "item")) item_tree) i (Some (at line column))
 
 -- A text of the data as it is found in the partial, whose scope frame holds the data as its value.
 abbrev pub found_text : Text → Found

@@ -55,7 +55,8 @@ impl fmt::Display for PieceKind {
 pub enum TemplateReference<'p> {
     /// The template that is rendered.
     First,
-    /// A template that is included, by its name. An inline partial has none.
+    /// A template that is included, by the name under which it is registered. A local partial is named by its own name, and
+    /// an inline one has none.
     Included(Option<&'p str>),
 }
 

@@ -8,7 +8,7 @@ use Rattle.handlebars_base.specs.Optional.{with_or}
 use Rattle.handlebars_base.specs.Scoped.{Found, present_in}
 use Rattle.handlebars_base.specs.Values.{boolean_text}
 use Rattle.handlebars_template.specs.Position.{Position}
-use Rattle.handlebars_template.specs.Tree.{Tree, tree, Elements, Element, raw_string, html_expression, partial_expression, partial_block, Call, call_name, call_args, call_body, call_inverse, Decorator, decorator_name, decorator_args, decorator_body, decorator_marks, Binding}
+use Rattle.handlebars_template.specs.Tree.{Tree, tree, tree_name, Elements, Element, raw_string, html_expression, partial_expression, partial_block, Call, call_name, call_args, call_body, call_inverse, Decorator, decorator_name, decorator_args, decorator_body, decorator_marks, Binding}
 use Rattle.handlebars_scope.specs.LineState.{LineState}
 use Rattle.handlebars_scope.specs.Scopes.{Frame, empty_frame, Base}
 use Rattle.handlebars_helpers.specs.Callee.{LocalHelper}
@@ -151,11 +151,11 @@ pub record Closed (p : Setting) (law : Law) : Type 0 where
       {v : CallView} {k : Option (List Piece)} → ComesToTag p law occurrence e inclusion_tag t before v
       → Finds p t before v (is_local x) → law.IsWell s → partial_in s.blocks v.name ≡ Some x → law.Fits occurrence s
       → law.Fits occurrence n → law.IsWell (begun s t k n)
-      → law.IsPart (One occurrence e) 1 (begun s t k n) (Whole (included_at occurrence x) x)
+      → law.IsPart (One occurrence e) 1 (begun s t k n) (Whole (included_at occurrence (tree_name x) x) x)
   pub registered_part : {occurrence : Occurrence} {e : Element} {t : Decorator} {x : Tree} {before s n : State}
       {v : CallView} {k : Option (List Piece)} → ComesToTag p law occurrence e inclusion_tag t before v
       → Finds p t before v (is_registered x) → law.Fits occurrence s → law.Fits occurrence n → law.IsWell (begun s t k n)
-      → law.IsPart (One occurrence e) 1 (begun s t k n) (Whole (included_at occurrence x) x)
+      → law.IsPart (One occurrence e) 1 (begun s t k n) (Whole (included_at occurrence (Some v.name) x) x)
   pub own_block_part : {occurrence : Occurrence} {e : Element} {t : Decorator} {x : Tree} {before s n : State}
       {v : CallView} {k : Option (List Piece)} → ComesToTag p law occurrence e inclusion_tag t before v
       → Finds p t before v (is_own_block x) → element_body e ≡ Some x → law.Fits occurrence s → law.Fits occurrence n

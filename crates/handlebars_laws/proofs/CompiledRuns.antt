@@ -5,7 +5,7 @@ use Rattle.std.specs.List.{AllByRecursion, list_all}
 use Rattle.std.proofs.lemmas.List.Folds.{list_all-append}
 use Rattle.handlebars_base.specs.Bytes.{Text}
 use Rattle.handlebars_lexer.specs.Trim.{is_blank}
-use Rattle.handlebars_template.specs.Tree.{Tree, tree, Elements, no_elements, element, Element, raw_string, html_expression, escaped_expression, helper_block, decorator_expression, decorator_block, partial_expression, partial_block, comment, call, Decorator, decorator, decorator_body, Bodies, bodies, bodies_body, bodies_inverse, Body, no_body, body}
+use Rattle.handlebars_template.specs.Tree.{Tree, tree, tree_name, Elements, no_elements, element, Element, raw_string, html_expression, escaped_expression, helper_block, decorator_expression, decorator_block, partial_expression, partial_block, comment, call, Decorator, decorator, decorator_body, Bodies, bodies, bodies_body, bodies_inverse, Body, no_body, body}
 use Rattle.handlebars_helpers.specs.UserHelper.{renders_body_in}
 use Rattle.handlebars_semantics.specs.Compiled.{IsBlank, IsAsCompiled, AreAsCompiled, IsElementAsCompiled, IsTagAsCompiled, IsBodyAsCompiled, PassesCompiled}
 use Rattle.handlebars_semantics.specs.Origins.{nth, nth_in, body_tree, element_body, element_inverse, element_decorator, inclusion_tag, is_html, tree_occurrence_of, tree_at, element_at, is_raw_tree, is_raw_occurrence, own_indent, AreIndents, around_first, around_body, around_inverse, around_block, around_included, around_own_block, IsPassedIn, IsTreeOfRun, is_first, is_body, is_inverse, is_local_of, is_stored, IsLocalOfRun, set_by, in_block_before, passed_in}
@@ -140,9 +140,9 @@ module _ (p : Setting) (u : Tree) (blocks : List Frame) (vs : List Visit) (first
         let y = inclusion_tag-compiled r.0 tag (element-compiled occurrence well r.0 r.1) r.2 in
         (y.0, is_raw_occurrence-off r.0 r.1 y.1)
 
-    included-well : (x : Tree) (tag : Decorator) → option_and_then inclusion_tag (element_at u occurrence) ≡ Some tag
-        → IsAsCompiled x → IsWellAt (included_at occurrence x)
-    included-well x tag is h = (λ t same. subst IsAsCompiled (Some-injective x t same) h, (included-tag tag is).1)
+    included-well : (name : Option Text) (x : Tree) (tag : Decorator)
+        → option_and_then inclusion_tag (element_at u occurrence) ≡ Some tag → IsAsCompiled x → IsWellAt (included_at occurrence name x)
+    included-well name x tag is h = (λ t same. subst IsAsCompiled (Some-injective x t same) h, (included-tag tag is).1)
 
   passed-compiled : (f : Frame) (n : Text) (t : Tree) → IsPassedIn p u vs f → f.partial n ≡ Some t → IsAsCompiled t
   passed-compiled f n t h is =
@@ -157,9 +157,9 @@ module _ (p : Setting) (u : Tree) (blocks : List Frame) (vs : List Visit) (first
     IsTreeOfRun-well (is_inverse {occurrence = occurrence} {j = j} {t = t} h visited is) =
         inverse-well occurrence (IsTreeOfRun-well h) j t is
     IsTreeOfRun-well (is_local_of {occurrence = occurrence} {t = t} {tag = tag} h tagged finds local) =
-        included-well occurrence (IsTreeOfRun-well h) t tag tagged.occurs (IsLocalOfRun-compiled local)
+        included-well occurrence (IsTreeOfRun-well h) (tree_name t) t tag tagged.occurs (IsLocalOfRun-compiled local)
     IsTreeOfRun-well (is_stored {occurrence = occurrence} {t = t} {tag = tag} {s = s} {v = v} h tagged finds) =
-        included-well occurrence (IsTreeOfRun-well h) t tag tagged.occurs (stored v.name t (local_or_other-registered
+        included-well occurrence (IsTreeOfRun-well h) (Some v.name) t tag tagged.occurs (stored v.name t (local_or_other-registered
         (partial_in s.blocks v.name) (p.parts.template v.name) (decorator_body tag) t finds.finds))
 
     IsLocalOfRun-compiled : {n : Text} {t : Tree} → IsLocalOfRun p u blocks vs n t → IsAsCompiled t
@@ -172,7 +172,7 @@ module _ (p : Setting) (u : Tree) (blocks : List Frame) (vs : List Visit) (first
 
   -- ---- indentations
 
-  around-of_run : {occurrence : Occurrence} {x : Tree} → IsTreeOfRun p u blocks vs (included_at occurrence x)
+  around-of_run : {occurrence : Occurrence} {name : Option Text} {x : Tree} → IsTreeOfRun p u blocks vs (included_at occurrence name x)
       → IsTreeOfRun p u blocks vs (tree_occurrence_of occurrence)
   around-of_run (is_local_of h tagged finds local) = h
   around-of_run (is_stored h tagged finds) = h

@@ -5,7 +5,7 @@ use Rattle.serde_json.specs.Data.{Data}
 use Rattle.handlebars_base.specs.Answers.{gives}
 use Rattle.handlebars_base.specs.PathAndData.{PathAndData}
 use Rattle.handlebars_base.specs.Scoped.{data_in}
-use Rattle.handlebars_template.specs.Tree.{Tree, Element, Decorator, decorator_name, decorator_args, decorator_body, decorator_marks, Body, no_body, body}
+use Rattle.handlebars_template.specs.Tree.{Tree, tree_name, Element, Decorator, decorator_name, decorator_args, decorator_body, decorator_marks, Body, no_body, body}
 use Rattle.handlebars_scope.specs.LineState.{LineState}
 use Rattle.handlebars_helpers.specs.CallView.{CallView}
 use Rattle.handlebars_helpers.specs.Decoration.{DecoratorView}
@@ -156,13 +156,13 @@ module _ (p : Setting) (law : Law) (closed : Closed p law) (occurrence : Occurre
             → Goes s (include_partial occurrence view found)
         include_partial-holds (is_local x) is =
             let finds : Finds p t before v (is_local x) = record { other = other; no_captured = no_captured; finds = is } in
-            include_tree-holds 1 (included_at occurrence x) x (render_ahead occurrence (decorator_body t))
+            include_tree-holds 1 (included_at occurrence (tree_name x) x) x (render_ahead occurrence (decorator_body t))
             (λ n k fit h. closed.local_part tagged finds well (local_or_other-local (partial_in before.blocks v.name)
             (p.parts.template v.name) (decorator_body t) x is) fits fit h) fits
             (render_ahead-leads v tagged (ahead_of_local finds) (decorator_body t) refl)
         include_partial-holds (is_registered x) is =
             let finds : Finds p t before v (is_registered x) = record { other = other; no_captured = no_captured; finds = is } in
-            include_tree-holds 1 (included_at occurrence x) x (render_ahead occurrence (decorator_body t))
+            include_tree-holds 1 (included_at occurrence (Some v.name) x) x (render_ahead occurrence (decorator_body t))
             (λ n k fit h. closed.registered_part tagged finds fits fit h) fits
             (render_ahead-leads v tagged (ahead_of_registered finds) (decorator_body t) refl)
         include_partial-holds (is_own_block x) is = include_tree-holds 0 (body_at occurrence (as_part 0)) x (return None)

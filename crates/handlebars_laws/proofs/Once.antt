@@ -23,7 +23,7 @@ abbrev mutual
   tree_address first_tree = []
   tree_address (body_at occurrence time) = address occurrence ++ (ordinal_of time ∷ [])
   tree_address (inverse_at occurrence i) = address occurrence ++ (i ∷ [])
-  tree_address (included_at occurrence t) = address occurrence ++ (1 ∷ [])
+  tree_address (included_at occurrence name t) = address occurrence ++ (1 ∷ [])
 
   address : Occurrence → List ℕ
   address (element_in at i position) = tree_address at ++ (i ∷ [])

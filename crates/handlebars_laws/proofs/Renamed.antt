@@ -9,7 +9,7 @@ use Rattle.handlebars_base.specs.PathAndData.{PathAndData}
 use Rattle.handlebars_base.specs.Reasons.{Refusal}
 use Rattle.handlebars_base.specs.Scoped.{Found, walked, value, missing, data_in, present_in}
 use Rattle.handlebars_template.specs.Position.{Position}
-use Rattle.handlebars_template.specs.Tree.{Tree, tree, Elements, no_elements, element, Element, raw_string, html_expression, escaped_expression, helper_block, decorator_expression, decorator_block, partial_expression, partial_block, comment, Call, call_marks, is_value, Decorator, decorator_body, decorator_marks, Body, no_body, body}
+use Rattle.handlebars_template.specs.Tree.{Tree, tree, tree_name, Elements, no_elements, element, Element, raw_string, html_expression, escaped_expression, helper_block, decorator_expression, decorator_block, partial_expression, partial_block, comment, Call, call_marks, is_value, Decorator, decorator_body, decorator_marks, Body, no_body, body}
 use Rattle.handlebars_scope.specs.LineState.{LineState}
 use Rattle.handlebars_scope.specs.Scopes.{Frame, empty_frame, Base}
 use Rattle.handlebars_helpers.specs.CallView.{CallView, HelperView}
@@ -267,9 +267,9 @@ module _ (p : Setting) (n : Text) where
     include_partial-goes : (v : DecoratorView) (found : Partial) (s : State) (c : Option Text)
         → Goes s c (include_partial occurrence v found) (include_partial occurrence v found)
     include_partial-goes v (is_local t) s c =
-        include_tree-goes v (included_at occurrence t) t (render_ahead occurrence v.body) (render_ahead-goes v.body) s c
+        include_tree-goes v (included_at occurrence (tree_name t) t) t (render_ahead occurrence v.body) (render_ahead-goes v.body) s c
     include_partial-goes v (is_registered t) s c =
-        include_tree-goes v (included_at occurrence t) t (render_ahead occurrence v.body) (render_ahead-goes v.body) s c
+        include_tree-goes v (included_at occurrence (Some v.call.name) t) t (render_ahead occurrence v.body) (render_ahead-goes v.body) s c
     include_partial-goes v (is_own_block t) s c =
         include_tree-goes v (body_at occurrence (as_part 0)) t (return None) (λ z d is f g next. next None z d is) s c
     include_partial-goes v is_nowhere s c = λ h k l g. both_fail

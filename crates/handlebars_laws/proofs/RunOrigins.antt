@@ -6,7 +6,7 @@ use Rattle.handlebars_base.specs.Bytes.{Text}
 use Rattle.handlebars_base.specs.Optional.{with_or}
 use Rattle.handlebars_base.specs.Scoped.{Found, present_in}
 use Rattle.handlebars_base.specs.Values.{boolean_text}
-use Rattle.handlebars_template.specs.Tree.{Tree, Element, html_expression, Call, Decorator}
+use Rattle.handlebars_template.specs.Tree.{Tree, tree_name, Element, html_expression, Call, Decorator}
 use Rattle.handlebars_scope.specs.Scopes.{Frame}
 use Rattle.handlebars_helpers.specs.CallView.{CallView}
 use Rattle.handlebars_helpers.specs.Iterations.{iteration_frame}
@@ -286,14 +286,14 @@ module _ (p : Setting) (u : Tree) (blocks : List Frame) (vs : List Visit) where
             refl,
           );
           raw = fit.raw;
-          indented = included_at-indents occurrence x t s.indent fits.indented there.occurs;
+          indented = included_at-indents occurrence (tree_name x) x t s.indent fits.indented there.occurs;
           of_run = h;
         };
     registered_part = λ {occurrence = occurrence} {t = t} {x = x} {before = before} {s = s} {v = v} tagged finds fits fit h.
         let there = ComesToTag-tagged tagged in record {
           occurs = (is_stored tagged.comes.of_run.0 there finds, refl);
           raw = fit.raw;
-          indented = included_at-indents occurrence x t s.indent fits.indented there.occurs;
+          indented = included_at-indents occurrence (Some v.name) x t s.indent fits.indented there.occurs;
           of_run = h;
         };
     own_block_part = λ {occurrence = occurrence} {e = e} {t = t} {x = x} {before = before} {s = s} {v = v} tagged finds is fits fit h.

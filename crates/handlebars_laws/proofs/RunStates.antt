@@ -28,11 +28,11 @@ joined_indent-own (Some i) None = sym (append-nil i)
 joined_indent-own (Some i) (Some own) = refl
 
 module _ {p : Setting} {u : Tree} {vs : List Visit} where
-  pub included_at-indents : (occurrence : Occurrence) (x : Tree) (tag : Decorator) (i : Option Text)
+  pub included_at-indents : (occurrence : Occurrence) (name : Option Text) (x : Tree) (tag : Decorator) (i : Option Text)
       → AreIndents p u vs (tree_occurrence_of occurrence) (unwrap_or i []) → option_and_then inclusion_tag (element_at u occurrence) ≡ Some tag
-      → AreIndents p u vs (included_at occurrence x) (unwrap_or (joined_indent i (decorator_marks tag).indent) [])
-  included_at-indents occurrence x tag i h is =
-      subst (AreIndents p u vs (included_at occurrence x)) (sym (joined_indent-own i (decorator_marks tag).indent))
+      → AreIndents p u vs (included_at occurrence name x) (unwrap_or (joined_indent i (decorator_marks tag).indent) [])
+  included_at-indents occurrence name x tag i h is =
+      subst (AreIndents p u vs (included_at occurrence name x)) (sym (joined_indent-own i (decorator_marks tag).indent))
       (around_included h is)
 
   pub own_block-indents : (occurrence : Occurrence) (x : Tree) (tag : Decorator) (s : State) (v : CallView) (i : Option Text)

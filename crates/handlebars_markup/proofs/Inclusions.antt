@@ -7,7 +7,7 @@ use Rattle.handlebars_base.specs.PathAndData.{PathAndData}
 use Rattle.handlebars_base.specs.Reasons.{partial_not_found}
 use Rattle.handlebars_base.specs.RenderRefusals.{plain_refusal}
 use Rattle.handlebars_base.specs.Scoped.{data_in}
-use Rattle.handlebars_template.specs.Tree.{Tree, args_hash, lacks_hash, Decorator, decorator_name, decorator_args, decorator_body, decorator_marks, Body, no_body, body}
+use Rattle.handlebars_template.specs.Tree.{Tree, tree_name, args_hash, lacks_hash, Decorator, decorator_name, decorator_args, decorator_body, decorator_marks, Body, no_body, body}
 use Rattle.handlebars_helpers.specs.CallView.{CallView}
 use Rattle.handlebars_semantics.specs.Including.{render_own_block, write_captured, partial_block_name, this_param, base_value, render_ahead, include_tree, include_partial, include_other, include_named, include}
 use Rattle.handlebars_semantics.specs.Inclusion.{Partial, is_local, is_registered, is_own_block, is_nowhere, own_block, registered_or_own, local_or_other, partial_for, is_current, newest, hash_data, inclusion_frame, joined_indent, named_as_before, end_inclusion}
@@ -165,15 +165,18 @@ module _ (p : Setting) (w : HasTwin p) where
         → IsBlindPartial found
         → LeadAlike p w s (include_partial occurrence (shown_tag s.indent x v) found) t
         (include_partial occurrence (shown_tag t.indent x u) found)
-    include_partial-alike s t occurrence v u (is_local tr) h e k next next' g =
-        include_tree-alike s t v u (included_at occurrence tr) tr (render_ahead occurrence (decorator_body x)) h e k
-        (render_ahead-alike occurrence (decorator_body x) blind_body) next next' g
-    include_partial-alike s t occurrence v u (is_registered tr) h e k next next' g =
-        include_tree-alike s t v u (included_at occurrence tr) tr (render_ahead occurrence (decorator_body x)) h e k
-        (render_ahead-alike occurrence (decorator_body x) blind_body) next next' g
-    include_partial-alike s t occurrence v u (is_own_block tr) h e k next next' g =
-        include_tree-alike s t v u (body_at occurrence (as_part 0)) tr (return None) h e k none-alike next next' g
-    include_partial-alike s t occurrence v u is_nowhere h e k next next' g =
+    include_partial-alike s t occurrence v u (is_local tr) h e k =
+        include_tree-alike s t v u (included_at occurrence (tree_name tr) tr) tr (render_ahead occurrence (decorator_body x)) h e k
+        (render_ahead-alike occurrence (decorator_body x) blind_body)
+    include_partial-alike s t occurrence v u (is_registered tr) h e k =
+        let ahead = render_ahead occurrence (decorator_body x) in
+        subst (λ (n : Text). LeadAlike p w s (include_tree (shown_tag s.indent x v) (included_at occurrence (Some v.name) tr) tr ahead) t
+        (include_tree (shown_tag t.indent x u) (included_at occurrence (Some n) tr) tr ahead)) e.views.name
+        (include_tree-alike s t v u (included_at occurrence (Some v.name) tr) tr ahead h e k
+        (render_ahead-alike occurrence (decorator_body x) blind_body))
+    include_partial-alike s t occurrence v u (is_own_block tr) h e k =
+        include_tree-alike s t v u (body_at occurrence (as_part 0)) tr (return None) h e k none-alike
+    include_partial-alike s t occurrence v u is_nowhere h e k = λ next next' g.
         ap (λ (n : Text). plain_refusal (partial_not_found n)) e.views.name
 
     include_other-alike : (s t : State) (occurrence : Occurrence) (v u : CallView) (found : Partial) (b : Bool) → AreSides p w s t

@@ -8,7 +8,7 @@ use Rattle.handlebars_base.specs.Bytes.{Text}
 use Rattle.handlebars_base.specs.Reasons.{Refusal, cannot_include_self, inclusion_limit, out_of_memory, partial_block_not_found, partial_not_found}
 use Rattle.handlebars_base.specs.RenderRefusals.{plain_refusal, reason_in, refusal_of}
 use Rattle.handlebars_base.specs.declared.error.render_error.RenderError.{RenderError}
-use Rattle.handlebars_template.specs.Tree.{Tree, tree, Body, body, no_body, Decorator, decorator_args, decorator_marks, decorator_name}
+use Rattle.handlebars_template.specs.Tree.{Tree, tree, tree_name, Body, body, no_body, Decorator, decorator_args, decorator_marks, decorator_name}
 use Rattle.handlebars_helpers.specs.CallView.{CallView}
 use Rattle.handlebars_helpers.specs.Decoration.{DecoratorView}
 use Rattle.handlebars_semantics.specs.Execute.{change}
@@ -372,14 +372,16 @@ module _ (p : Setting) (may : Error → Type 0) where
 
       pub includes-local : (t : Tree) {s : State} {h : Holding} {after : Moment} {r : Answered} → is_current v.call.name s.current ≡ false
           → bytes_eq partial_block_name v.call.name ≡ false → Some t ≡ partial_in s.blocks v.call.name
-          → RefinesProg p (include_found occurrence v t) may (moment_at s h) r after → RefinesProg p (include occurrence v) may (moment_at s h) r after
+          → RefinesProg p (include_found occurrence v (tree_name t) t) may (moment_at s h) r after
+          → RefinesProg p (include occurrence v) may (moment_at s h) r after
       includes-local t {s = s} not_self other is x = partial-so _ not_self other
           (ap (λ (o : Option Tree). local_or_other o (p.parts.template v.call.name) v.body) is) x
 
       pub includes-registered : (t : Tree) {s : State} {h : Holding} {after : Moment} {r : Answered} → is_current v.call.name s.current ≡ false
           → bytes_eq partial_block_name v.call.name ≡ false → None ≡ partial_in s.blocks v.call.name
           → Some t ≡ p.parts.template v.call.name
-          → RefinesProg p (include_found occurrence v t) may (moment_at s h) r after → RefinesProg p (include occurrence v) may (moment_at s h) r after
+          → RefinesProg p (include_found occurrence v (Some v.call.name) t) may (moment_at s h) r after
+          → RefinesProg p (include occurrence v) may (moment_at s h) r after
       includes-registered t {s = s} not_self other none is x = partial-so _ not_self other
           (ap (λ (o : Option Tree). registered_or_own o v.body) is
           ∙ ap (λ (o : Option Tree). local_or_other o (p.parts.template v.call.name) v.body) none) x

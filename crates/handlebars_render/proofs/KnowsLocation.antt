@@ -1,7 +1,8 @@
 -- The locations of elements.
 use Rattle.std.proofs.Common.{◌≡◌, ℕ, Bool, true, false, true≢false, List, [], ◌∷◌, ◌++◌, Option, None, refl, sym, ap, ◌∙◌, append_assoc, append-nil}
+use Rattle.handlebars_base.specs.Bytes.{Text}
 use Rattle.handlebars_template.specs.Position.{Position}
-use Rattle.handlebars_template.specs.Tree.{Tree, tree, no_elements, tree_name}
+use Rattle.handlebars_template.specs.Tree.{Tree, tree, no_elements}
 use Rattle.handlebars_semantics.specs.Occurrences.{Around, Occurrence, Template, TreeOccurrence, Whereabouts, around, as_iteration, body_at, element_in, first_tree, included_at, template_at, the_first, the_included, iterations_at, whereabouts}
 use Rattle.handlebars_render.proofs.Leads.{part_occurrence}
 
@@ -35,18 +36,18 @@ location-element {v = v} at i {there = there} same location is =
     ∙ ap (λ (z : Option Position). record { around = v; position = z }) same
 
 -- a tree that is included
-pub location-included : {asks : Bool} {w : Whereabouts} (occurrence : Occurrence) (t : Tree) (template : Template)
-    → template ≡ the_included (tree_name t) → (asks ≡ true → whereabouts occurrence ≡ w)
-    → asks ≡ true → around (included_at occurrence t) ≡ record { template = template; iterations = w.around.iterations }
-location-included {w = w} occurrence t template same location is =
-    ap (λ (z : Whereabouts). record { template = the_included (tree_name t); iterations = z.around.iterations }) (location is)
+pub location-included : {asks : Bool} {w : Whereabouts} (occurrence : Occurrence) (name : Option Text) (t : Tree) (template : Template)
+    → template ≡ the_included name → (asks ≡ true → whereabouts occurrence ≡ w)
+    → asks ≡ true → around (included_at occurrence name t) ≡ record { template = template; iterations = w.around.iterations }
+location-included {w = w} occurrence name t template same location is =
+    ap (λ (z : Whereabouts). record { template = the_included name; iterations = z.around.iterations }) (location is)
     ∙ ap (λ (z : Template). record { template = z; iterations = w.around.iterations }) (sym same)
 
 -- ---- each location is that of some element
 
 abbrev tree_for : Template → TreeOccurrence
 tree_for the_first = first_tree
-tree_for (the_included name) = included_at (element_in first_tree 0 None) (tree name no_elements [])
+tree_for (the_included name) = included_at (element_in first_tree 0 None) name (tree None no_elements [])
 
 tree_for-template : (z : Template) → around (tree_for z) ≡ record { template = z; iterations = [] }
 tree_for-template the_first = refl

@@ -107,7 +107,7 @@ pub fn include<O, T: OutputMode<O>, P: Registered>(
         }
         None => match environment.parts.template(view.name()) {
             Some(tree) => {
-                let template = included(&*tree);
+                let template = TemplateReference::Included(Some(view.name()));
                 include_tree(view, &*tree, template, view.template(), nearer, rc, sink)
             }
             None => match view.template() {
@@ -121,7 +121,7 @@ pub fn include<O, T: OutputMode<O>, P: Registered>(
     }
 }
 
-// The template reference of the elements of an included tree.
+// The template reference of the elements of a local partial: its own name.
 fn included(tree: &Template) -> TemplateReference<'_>
     ensures { template_seen result ≡ the_included (tree_name (tree_view tree.now)) }
 {

@@ -7,7 +7,7 @@ use Rattle.handlebars_base.specs.Path.{relative}
 use Rattle.handlebars_base.specs.PathAndData.{PathAndData}
 use Rattle.handlebars_base.specs.Reasons.{cannot_include_self, partial_block_not_found, partial_not_found}
 use Rattle.handlebars_base.specs.Scoped.{data_in}
-use Rattle.handlebars_template.specs.Tree.{Tree, Param, path, Body, no_body, body}
+use Rattle.handlebars_template.specs.Tree.{Tree, tree_name, Param, path, Body, no_body, body}
 use Rattle.handlebars_helpers.specs.Decoration.{DecoratorView}
 use Rattle.handlebars_semantics.specs.Execute.{change}
 use Rattle.handlebars_semantics.specs.Inclusion.{Partial, is_local, is_registered, is_own_block, is_nowhere, is_current, newest, hash_data, inclusion_frame, begin_inclusion, named_as_before, end_inclusion}
@@ -76,14 +76,15 @@ include_tree v at t ahead = do
   perform (Whole at t)
   change (end_inclusion s)
 
-abbrev pub include_found : Occurrence → DecoratorView → Tree → Prog (Unit {0})
-include_found occurrence v t = include_tree v (included_at occurrence t) t (render_ahead occurrence v.body)
+abbrev pub include_found : Occurrence → DecoratorView → Option Text → Tree → Prog (Unit {0})
+include_found occurrence v name t = include_tree v (included_at occurrence name t) t (render_ahead occurrence v.body)
 
--- What was found is included. If nothing was found, the tag's own block is included, and captures no text. If there is no
--- block either, the inclusion fails with `partial_not_found`.
+-- What was found is included: a local partial under its own name, if it has one, and a registered tree under the name by
+-- which it was found. If nothing was found, the tag's own block is included, and captures no text. If there is no block
+-- either, the inclusion fails with `partial_not_found`.
 abbrev pub include_partial : Occurrence → DecoratorView → Partial → Prog (Unit {0})
-include_partial occurrence v (is_local t) = include_found occurrence v t
-include_partial occurrence v (is_registered t) = include_found occurrence v t
+include_partial occurrence v (is_local t) = include_found occurrence v (tree_name t) t
+include_partial occurrence v (is_registered t) = include_found occurrence v (Some v.call.name) t
 include_partial occurrence v (is_own_block t) = include_tree v (body_at occurrence (as_part 0)) t (return None)
 include_partial occurrence v is_nowhere = fail_for (partial_not_found v.call.name)
 

@@ -4,7 +4,7 @@
 use Rattle.std.specs.Prelude.{ℕ, List, [], ◌∷◌, ◌++◌, Option}
 use Rattle.handlebars_base.specs.Bytes.{Text}
 use Rattle.handlebars_template.specs.Position.{Position}
-use Rattle.handlebars_template.specs.Tree.{Tree, tree_name}
+use Rattle.handlebars_template.specs.Tree.{Tree}
 
 -- One of the times that an element renders its body: as the part of this number, in the iteration of `each` over the member
 -- of this index; or as the part of this number, in no iteration.
@@ -18,13 +18,13 @@ ordinal_of (as_part i) = i
 
 -- The occurrence of a tree: the tree that the run begins with; the body or the inverse of the element at an occurrence, with
 -- the number of parts that were rendered for the element before; or the tree that the inclusion at an occurrence found and
--- renders, as it is.
+-- renders, as it is, with its name there: the name under which it is registered, or the own name of a local partial.
 mutual
   pub data TreeOccurrence : Type 0 where
     first_tree : TreeOccurrence
     body_at : Occurrence → Time → TreeOccurrence
     inverse_at : Occurrence → ℕ → TreeOccurrence
-    included_at : Occurrence → Tree → TreeOccurrence
+    included_at : Occurrence → Option Text → Tree → TreeOccurrence
 
   pub data Occurrence : Type 0 where
     element_in : TreeOccurrence → ℕ → Option Position → Occurrence
@@ -34,8 +34,8 @@ occurrence_position (element_in at i position) = position
 
 -- ---- what surrounds an element, as it is emitted
 
--- the template that an element is in: the one that the run begins with, or an included one, by its name; an inline partial
--- has none
+-- the template that an element is in: the one that the run begins with, or an included one, by the name under which it is
+-- registered; a local partial is named by its own name, and an inline one has none
 pub data Template : Type 0 where
   the_first : Template
   the_included : Option Text → Template
@@ -45,7 +45,7 @@ abbrev mutual
   template_at first_tree = the_first
   template_at (body_at occurrence time) = template_of occurrence
   template_at (inverse_at occurrence i) = template_of occurrence
-  template_at (included_at occurrence t) = the_included (tree_name t)
+  template_at (included_at occurrence name t) = the_included name
 
   pub template_of : Occurrence → Template
   template_of (element_in at i position) = template_at at
@@ -61,7 +61,7 @@ abbrev mutual
   iterations_at first_tree = []
   iterations_at (body_at occurrence time) = with_iteration time (iterations_around occurrence)
   iterations_at (inverse_at occurrence i) = iterations_around occurrence
-  iterations_at (included_at occurrence t) = iterations_around occurrence
+  iterations_at (included_at occurrence name t) = iterations_around occurrence
 
   pub iterations_around : Occurrence → List ℕ
   iterations_around (element_in at i position) = iterations_at at

@@ -9,7 +9,7 @@ use Rattle.handlebars_base.specs.Optional.{◌>>=◌, with_or}
 use Rattle.handlebars_base.specs.Scoped.{Found, walked, value, missing, present_in}
 use Rattle.handlebars_base.specs.Values.{boolean_text}
 use Rattle.handlebars_template.specs.Position.{Position}
-use Rattle.handlebars_template.specs.Tree.{Tree, tree, tree_elements, Elements, no_elements, element, Element, raw_string, html_expression, escaped_expression, helper_block, decorator_expression, decorator_block, partial_expression, partial_block, Call, call_name, call_args, call_body, call_inverse, is_value, Decorator, decorator_name, decorator_args, decorator_body, decorator_marks, Body, no_body, body}
+use Rattle.handlebars_template.specs.Tree.{Tree, tree, tree_name, tree_elements, Elements, no_elements, element, Element, raw_string, html_expression, escaped_expression, helper_block, decorator_expression, decorator_block, partial_expression, partial_block, Call, call_name, call_args, call_body, call_inverse, is_value, Decorator, decorator_name, decorator_args, decorator_body, decorator_marks, Body, no_body, body}
 use Rattle.handlebars_base.specs.Outputs.{IsPrefix}
 use Rattle.handlebars_helpers.specs.CallView.{CallView}
 use Rattle.handlebars_helpers.specs.Callee.{Target}
@@ -87,7 +87,7 @@ abbrev mutual
   tree_at u first_tree = Some u
   tree_at u (body_at occurrence time) = element_at u occurrence >>= element_body
   tree_at u (inverse_at occurrence i) = element_at u occurrence >>= element_inverse
-  tree_at u (included_at occurrence t) = Some t
+  tree_at u (included_at occurrence name t) = Some t
 
   pub element_at : Tree → Occurrence → Option Element
   element_at u (element_in at i position) = nth_in (tree_at u at) i
@@ -114,7 +114,7 @@ abbrev mutual
   is_raw_tree u first_tree = false
   is_raw_tree u (body_at occurrence time) = is_raw_occurrence u occurrence
   is_raw_tree u (inverse_at occurrence i) = is_raw_occurrence u occurrence
-  is_raw_tree u (included_at occurrence t) = is_raw_occurrence u occurrence
+  is_raw_tree u (included_at occurrence name t) = is_raw_occurrence u occurrence
 
   pub is_raw_occurrence : Tree → Occurrence → Bool
   is_raw_occurrence u (element_in at i position) = with_or (nth_in (tree_at u at) i) is_html false || is_raw_tree u at
@@ -275,8 +275,9 @@ pub data AreIndents (p : Setting) (u : Tree) (vs : List Visit) : TreeOccurrence 
   around_block : {occurrence : Occurrence} {tag : Decorator} {s : State} {v : CallView} {t : Text}
       → AreIndents p u vs (tree_occurrence_of occurrence) t → IsTagged p u vs occurrence inclusion_tag tag s v → IsBlockAlone p tag s v
       → AreIndents p u vs (body_at occurrence (as_part 0)) t
-  around_included : {occurrence : Occurrence} {x : Tree} {tag : Decorator} {t : Text} → AreIndents p u vs (tree_occurrence_of occurrence) t
-      → (element_at u occurrence >>= inclusion_tag) ≡ Some tag → AreIndents p u vs (included_at occurrence x) (t ++ own_indent tag)
+  around_included : {occurrence : Occurrence} {name : Option Text} {x : Tree} {tag : Decorator} {t : Text}
+      → AreIndents p u vs (tree_occurrence_of occurrence) t → (element_at u occurrence >>= inclusion_tag) ≡ Some tag
+      → AreIndents p u vs (included_at occurrence name x) (t ++ own_indent tag)
   around_own_block : {occurrence : Occurrence} {x : Tree} {tag : Decorator} {s : State} {v : CallView} {t : Text}
       → AreIndents p u vs (tree_occurrence_of occurrence) t → IsTagged p u vs occurrence inclusion_tag tag s v
       → Finds p tag s v (is_own_block x) → AreIndents p u vs (body_at occurrence (as_part 0)) (t ++ own_indent tag)
@@ -338,7 +339,7 @@ pub record SetsPartial (p : Setting) (tag : Decorator) (s : State) (v : CallView
 mutual
   -- A tree of a run that begins with the tree u in these scope frames: u itself; a body or an inverse of an element that the
   -- run visits in a tree of the run; or the tree that the name of an inclusion's tag finds, if the run visits the tag in a
-  -- tree of the run: a local partial of the run, or a registered tree.
+  -- tree of the run: a local partial of the run, under its own name, or a registered tree, under that name.
   pub data IsTreeOfRun (p : Setting) (u : Tree) (blocks : List Frame) (vs : List Visit) : TreeOccurrence → Type 0 where
     is_first : IsTreeOfRun p u blocks vs first_tree
     is_body : {occurrence : Occurrence} {time : Time} {t : Tree} → IsTreeOfRun p u blocks vs (tree_occurrence_of occurrence) → IsVisited vs occurrence
@@ -348,10 +349,10 @@ mutual
     is_local_of : {occurrence : Occurrence} {t : Tree} {tag : Decorator} {s : State} {v : CallView}
         → IsTreeOfRun p u blocks vs (tree_occurrence_of occurrence) → IsTagged p u vs occurrence inclusion_tag tag s v
         → Finds p tag s v (is_local t) → IsLocalOfRun p u blocks vs v.name t
-        → IsTreeOfRun p u blocks vs (included_at occurrence t)
+        → IsTreeOfRun p u blocks vs (included_at occurrence (tree_name t) t)
     is_stored : {occurrence : Occurrence} {t : Tree} {tag : Decorator} {s : State} {v : CallView}
         → IsTreeOfRun p u blocks vs (tree_occurrence_of occurrence) → IsTagged p u vs occurrence inclusion_tag tag s v
-        → Finds p tag s v (is_registered t) → IsTreeOfRun p u blocks vs (included_at occurrence t)
+        → Finds p tag s v (is_registered t) → IsTreeOfRun p u blocks vs (included_at occurrence (Some v.name) t)
 
   -- A local partial of a run, by its name: one that the decorator of a tag sets, if the run visits the tag in a tree of the
   -- run; or one that was in a scope frame before, with which the run began or which a user-defined helper passed.

@@ -8,7 +8,8 @@ use Rattle.handlebars_semantics.specs.Emitted.{Kind, Emitted}
 use Rattle.handlebars_expand.specs.PiecesView.{kind_name}
 use Rattle.handlebars_template.specs.Position.{Position}
 
--- the template: for the one that is rendered, the text `first`; for an included one, its name; an inline partial has none
+-- the template: for the one that is rendered, the text `first`; for an included one, the name under which it is registered;
+-- an inline partial has none
 abbrev pub template_token : Text → Template → Token
 template_token first the_first = string first
 template_token first (the_included None) = null

@@ -53,7 +53,7 @@ use Rattle.handlebars_semantics.specs.Inclusion.{inclusion_frame, newest, hash_d
 use Rattle.handlebars_semantics.specs.Including.{render_ahead}
 use Rattle.handlebars_semantics.specs.Means.{include_tag, line_at, on_line}
 use Rattle.handlebars_semantics.specs.Questions.{view_of}
-use Rattle.handlebars_semantics.specs.Occurrences.{included_at}
+use Rattle.handlebars_semantics.specs.Occurrences.{included_at, the_included}
 use Rattle.handlebars_semantics.specs.Steps.{Whole, ask, perform}
 use Rattle.handlebars_expand.proofs.Asked.{fails-ask}
 use Rattle.handlebars_render.proofs.Includes.{begins-empty, begin_inclusion-so, captured-more, captured-no, own-none, own-some, state_in_inclusion, refines_ahead-captured, refines_ahead-over, includes-captured, includes-local, includes-own, includes-registered, includes-self, inclusion-ahead, inclusion-ahead_over, inclusion-limit_reached, inclusion-no_value, inclusion-plain, captured-none, captured-own, captured-written, tag-includes, under-same}
@@ -527,8 +527,9 @@ partial::include-returns-in-Some-clause-renders g t c = λ occurrence location c
     (rw c.name-2.ensures at (sym c.is_partial_block.ensures ∙ c.if-is_partial_block.false))
     ((rw c.name-3.ensures at (rw c.in-Some.is at c.in_ok-found.ensures))
     ∙ sym (partial_in-with_borrowed captured.bases (state_of c.args.rc.now).blocks (tag_view c.args.view.now).call.name))
-    (rw (c.deref-in-Some.ensures, c.template.ensures) at (c.include_tree.ensures.renders occurrence location (included_at occurrence (tree_view c.in-Some.tree.value))
-    (location-included occurrence (tree_view c.in-Some.tree.value) _ (rw c.deref.ensures at c.included-template.ensures) location) captured captures))
+    (let t = tree_view c.in-Some.tree.value in
+    rw (c.deref-in-Some.ensures, c.template.ensures) at (c.include_tree.ensures.renders occurrence location (included_at occurrence (tree_name t) t)
+    (location-included occurrence (tree_name t) t _ (rw c.deref.ensures at c.included-template.ensures) location) captured captures))
 
 pub partial::include-returns-in-Some-template-clause-renders : goal.partial::include-returns-in-Some-template-clause-renders
 partial::include-returns-in-Some-template-clause-renders g t c = λ occurrence location captured captures.
@@ -538,9 +539,11 @@ partial::include-returns-in-Some-template-clause-renders g t c = λ occurrence l
     ((rw c.name-3.ensures at (rw c.in-None.is at c.in_ok-found.ensures))
     ∙ sym (partial_in-with_borrowed captured.bases (state_of c.args.rc.now).blocks (tag_view c.args.view.now).call.name))
     (rw c.name-in-None.ensures at c.in-Some-template.ensures)
-    (rw c.template-in-Some-template.ensures at
-    (c.include_tree-in-Some-template.ensures.renders occurrence location (included_at occurrence (tree_view c.in-Some-template.tree.now))
-    (location-included occurrence (tree_view c.in-Some-template.tree.now) _ c.included-template-in-Some-template.ensures location) captured captures))
+    (let t = tree_view c.in-Some-template.tree.now in let name = (tag_view c.args.view.now).call.name in
+    rw c.template-in-Some-template.ensures at
+    (c.include_tree-in-Some-template.ensures.renders occurrence location (included_at occurrence (Some name) t)
+    (location-included occurrence (Some name) t _ (ap (λ (n : Text). the_included (Some n)) c.name-in-Some-template.ensures) location)
+    captured captures))
 
 pub partial::include-returns-in-Some-template-2-clause-renders :
     goal.partial::include-returns-in-Some-template-2-clause-renders
