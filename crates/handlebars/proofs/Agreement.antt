@@ -1,62 +1,66 @@
--- Calls that return a text and calls that write to a writer agree.
-use Rattle.std.proofs.Common.{◌≡◌, true, Option, refl, sym, ap, ◌∙◌, subst}
+-- Calls that return a text and calls that write to a writer agree, in any pair.
+use Rattle.std.proofs.Common.{◌≡◌, true, Option, None, Some, refl, sym, ap, ◌∙◌, subst}
 use Rattle.std.proofs.Math.Bool.{Bool-set}
 use Rattle.std.proofs.Math.Logic.{∥∥₁_elim, ∥∥₁_map}
 use Rattle.std.proofs.lemmas.Slice.Eq.{bytes_eq-Decides}
-use Rattle.std.specs.Io.KnownBytes.{Appends}
-use Rattle.std.specs.Prelude.{IsErrAnd, IsOk}
+use Rattle.std.specs.Prelude.{List, Ok, Err}
 use Rattle.std.specs.Str.{bytes_eq}
 use Rattle.handlebars_base.specs.Bytes.{Text}
 use Rattle.handlebars_base.specs.Reasons.{Refusal}
-use Rattle.handlebars_base.specs.RenderRefusals.{refusal_of}
-use Rattle.handlebars_semantics.specs.Answer.{Beginning, GivesText, HasOneAnswer, FailsWith}
-use Rattle.handlebars_semantics.specs.Pieces.{join}
-use Rattle.handlebars_semantics.specs.Runs.{Outcome, Ended, Failed, WriteFailed, NoMemory}
-use Rattle.handlebars_semantics.specs.State.{Setting, State}
+use Rattle.handlebars_semantics.specs.Answer.{Beginning, RenderAnswers, HasOneAnswer}
+use Rattle.handlebars_semantics.specs.Pieces.{Piece, join}
+use Rattle.handlebars_semantics.specs.Runs.{Outcome, Ended, Failed, WriteFailed, NoMemory, IsStop}
+use Rattle.handlebars_semantics.specs.State.{Setting}
 use Rattle.handlebars_render.specs.View.{Answered}
-use Rattle.handlebars.specs.Calls.{CallsAgree, IsUnbroken, Writes, all_written, failed_after, writer_failed, memory_failed}
+use Rattle.handlebars.specs.Calls.{CallResult, returned, wrote, Gave, call_error, IsSameResult, ComesOfAnswer, CallsAgree, IsUnbroken, Writes, all_written, failed_after, writer_failed, memory_failed}
 
 same_text-merely : {A : Type 0} (x y : Text) → ∥ A ∥₁ → (A → x ≡ y) → x ≡ y
 same_text-merely x y truncated same =
     (bytes_eq-Decides x y).0 (∥∥₁_elim truncated (Bool-set (bytes_eq x y) true) (λ a. (bytes_eq-Decides x y).1 (same a)))
 
-never-merely : {A : Type 0} → ∥ A ∥₁ → (A → ⊥) → ⊥
-never-merely truncated none = ∥∥₁_elim truncated (λ x y. absurd x) none
+-- the error that an answer is, if it is one
+abbrev error_in : Outcome → Option Refusal
+error_in (Ended s) = None
+error_in (Failed r) = Some r
+error_in (WriteFailed f) = None
+error_in NoMemory = None
 
-Ended≢Failed : {s : State} {r : Refusal} → Ended s ≡ Failed r → ⊥
-Ended≢Failed e = cc
+module _ (p : Setting) (begins : Beginning → Type 0) where
+  -- the answer of which a call comes
+  record HasAnswer (a : CallResult) : Type 0 where
+    pieces : List Piece
+    outcome : Outcome
+    answers : RenderAnswers p begins pieces outcome
+    whole : IsStop outcome → ⊥
+    gave : Gave a (join pieces)
+    error : call_error a ≡ error_in outcome
 
-refusal_from : Refusal → Outcome → Refusal
-refusal_from d (Ended s) = d
-refusal_from d (Failed r) = r
-refusal_from d (WriteFailed f) = d
-refusal_from d NoMemory = d
+  answer_of_writer : (before after : Option Text) (r : Answered) (w : Writes p begins before after r) → IsUnbroken p begins w
+      → HasAnswer (wrote before after r)
+  answer_of_writer before after _ (all_written {ps = ps} {last = last} a w) h =
+      record { pieces = ps; outcome = Ended last; answers = a; whole = λ s. s; gave = w; error = refl }
+  answer_of_writer before after _ (failed_after {ps = ps} a w) h =
+      record { pieces = ps; outcome = Failed _; answers = a; whole = λ s. s; gave = w; error = refl }
+  answer_of_writer before after _ (writer_failed cause f a reports is w) h = absurd h
+  answer_of_writer before after _ (memory_failed t memory is w) h = absurd h
 
-Failed-injective : {r q : Refusal} → Failed r ≡ Failed q → r ≡ q
-unfolding refusal_from
-Failed-injective {r = r} e = ap (refusal_from r) e
+  answer_of : (a : CallResult) → ComesOfAnswer p begins a → HasAnswer a
+  answer_of (returned (Ok t)) g =
+      record { pieces = g.pieces; outcome = Ended g.last; answers = g.answers; whole = λ s. s; gave = g.is; error = refl }
+  answer_of (returned (Err q)) g =
+      record { pieces = g.pieces; outcome = Failed q; answers = g.answers; whole = λ s. s; gave = tt; error = refl }
+  answer_of (wrote before after r) g = answer_of_writer before after r g.0 g.1
 
-module _ (p : Setting) (begins : Beginning → Type 0) (one : HasOneAnswer p begins) where
-  texts_agree : (t : Text) (before after : Option Text) (r : Answered) → GivesText p begins t
-      → (w : Writes p begins before after r) → IsUnbroken p begins w → IsOk r × Appends before after t
-  texts_agree t before after _ g (all_written {ps = ps} a w) h = (
-    refl,
-    subst (λ (z : Text). Appends before after z)
-        (same_text-merely (join ps) t (one ps g.pieces _ _ a g.answers (λ s. s) (λ s. s)) (λ same. ap join same.0 ∙ sym g.is)) w,
-  )
-  texts_agree t before after _ g (failed_after {ps = ps} a w) h =
-      absurd (never-merely (one g.pieces ps _ _ g.answers a (λ s. s) (λ s. s)) (λ same. Ended≢Failed same.1))
-  texts_agree t before after _ g (writer_failed cause f a reports is w) h = absurd h
-  texts_agree t before after _ g (memory_failed u memory is w) h = absurd h
+  same_calls : HasOneAnswer p begins → (a b : CallResult) → HasAnswer a → HasAnswer b → IsSameResult a b
+  same_calls one a b x y =
+      let same = one x.pieces y.pieces x.outcome y.outcome x.answers y.answers x.whole y.whole in
+      record {
+        text = join x.pieces;
+        of_first = x.gave;
+        of_second = subst (λ (t : Text). Gave b t)
+            (same_text-merely (join y.pieces) (join x.pieces) same (λ e. ap join (sym e.0))) y.gave;
+        errors = ∥∥₁_map same (λ e. x.error ∙ ap error_in e.1 ∙ sym y.error);
+      }
 
-  refusals_agree : (q : Refusal) (before after : Option Text) (r : Answered) → FailsWith p begins q
-      → (w : Writes p begins before after r) → IsUnbroken p begins w → IsErrAnd r (λ e. ∥ refusal_of e ≡ q ∥₁)
-  refusals_agree q before after _ g (all_written {ps = ps} a w) h =
-      absurd (never-merely (one ps g.pieces _ _ a g.answers (λ s. s) (λ s. s)) (λ same. Ended≢Failed same.1))
-  refusals_agree q before after _ g (failed_after {ps = ps} {e = e} a w) h =
-      ∥∥₁_map (one ps g.pieces _ _ a g.answers (λ s. s) (λ s. s)) (λ same. Failed-injective same.1)
-  refusals_agree q before after _ g (writer_failed cause f a reports is w) h = absurd h
-  refusals_agree q before after _ g (memory_failed u memory is w) h = absurd h
-
-  pub calls_agree : CallsAgree p begins
-  calls_agree = record { texts = texts_agree; refusals = refusals_agree }
+  pub calls_agree : HasOneAnswer p begins → CallsAgree p begins
+  calls_agree one a b g h = same_calls one a b (answer_of a g) (answer_of b h)

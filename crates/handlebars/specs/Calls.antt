@@ -2,7 +2,7 @@
 -- first.
 use Rattle.std.specs.Io.KnownBytes.{Appends}
 use Rattle.std.specs.Global.{Global}
-use Rattle.std.specs.Prelude.{◌≡◌, ◌⊎◌, List, [], Option, None, Result, Ok, Err, IsErrAnd, IsOk, String}
+use Rattle.std.specs.Prelude.{◌≡◌, ◌⊎◌, List, [], Option, None, Some, Result, Ok, Err, String}
 use Rattle.std.specs.declared.io.Error.{Error}
 use Rattle.serde.specs.Event.{Log}
 use Rattle.serde_json.specs.Data.{Data}
@@ -62,13 +62,44 @@ module _ (p : Setting) (begins : Beginning → Type 0) where
   IsUnbroken (writer_failed cause f a reports is w) = ⊥
   IsUnbroken (memory_failed t memory is w) = ⊥
 
-  -- A call that returns a text and a call that writes to a writer agree on the outcome and on the text, if neither the writer
-  -- fails nor memory runs out. That two errors are equal holds up to truncation.
-  pub record CallsAgree : Type 0 where
-    pub texts : (t : Text) (before after : Option Text) (r : Answered) → GivesText p begins t
-        → (w : Writes before after r) → IsUnbroken w → IsOk r × Appends before after t
-    pub refusals : (q : Refusal) (before after : Option Text) (r : Answered) → FailsWith p begins q
-        → (w : Writes before after r) → IsUnbroken w → IsErrAnd r (λ e. ∥ refusal_of e ≡ q ∥₁)
+-- ---- calls into texts and to writers
+
+-- What a call comes to: it returns a text or an error; or it writes to a writer, which reports what it holds before the call
+-- and after it, and returns this.
+pub data CallResult : Type 0 where
+  returned : Result Text Refusal → CallResult
+  wrote : (before after : Option Text) → Answered → CallResult
+
+-- The call gave this text: it returned the text, or wrote it. If a call that returns a text fails, it gives none.
+abbrev pub Gave : CallResult → Text → Type 0
+Gave (returned (Ok t)) u = t ≡ u
+Gave (returned (Err q)) u = Unit {0}
+Gave (wrote before after r) u = Appends before after u
+
+-- the error with which the call failed, if it did
+abbrev pub call_error : CallResult → Option Refusal
+call_error (returned (Ok t)) = None
+call_error (returned (Err q)) = Some q
+call_error (wrote before after (Ok u)) = None
+call_error (wrote before after (Err e)) = Some (refusal_of e)
+
+-- Two calls gave one text, and both ended well or failed with one error. That the errors are equal holds up to truncation.
+pub record IsSameResult (a b : CallResult) : Type 0 where
+  pub text : Text
+  pub of_first : Gave a text
+  pub of_second : Gave b text
+  pub errors : ∥ call_error a ≡ call_error b ∥₁
+
+module _ (p : Setting) (begins : Beginning → Type 0) where
+  -- What the contract of a call says of the answer, if neither the writer fails nor memory runs out.
+  abbrev pub ComesOfAnswer : CallResult → Type 0
+  ComesOfAnswer (returned (Ok t)) = GivesText p begins t
+  ComesOfAnswer (returned (Err q)) = FailsWith p begins q
+  ComesOfAnswer (wrote before after r) = (w : Writes p begins before after r) × IsUnbroken p begins w
+
+  -- Two calls agree, whether they return a text or write to a writer.
+  abbrev pub CallsAgree : Type 0
+  CallsAgree = (a b : CallResult) → ComesOfAnswer a → ComesOfAnswer b → IsSameResult a b
 
 -- ---- calls with an output that read files first
 

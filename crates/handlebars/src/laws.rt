@@ -64,9 +64,9 @@ pub fn laws_of_runs<E: UserParts>(registry: &RegistryOf<E>, context: &Context)
     registry.entries.satisfies_law();
 }
 
-/// The calls that render agree, by one name or by one source, into a text or to a writer, over a context or over data
-/// whose conversion gives its value. If they read the same trees, the writer doesn't fail and memory doesn't run out,
-/// they agree on the outcome and on the text.
+/// The calls that render agree, by one name or by one source, over a context or over data whose conversion gives its
+/// value, whether they return a text or write to a writer. If two calls read the same trees, no writer fails and memory
+/// doesn't run out, they return or write the same text, or fail with the same error.
 pub fn calls_agree<E: UserParts>(registry: &RegistryOf<E>)
     ensures names { (name : Text) (d : Data) (read : List Loaded)
         → CallsAgree (setting_under E.registered E.user read registry.now d)
