@@ -3,11 +3,15 @@
 ghost use Rattle.std.specs.Prelude.{◌≡◌, ◌&&◌, IfOk, length, nat_eq, not};
 
 use crate::failure::Failure;
+use crate::listed::Listed;
 use crate::partials::{Partials, collect};
 use handlebars::{
-    DirectorySourceOptions, MarkupFault, NoFiles, Registry, Template, TemplateReader,
+    BoxedEntries, DirectorySourceOptions, MarkupFault, NoFiles, Registry, Template, TemplateReader,
+    UserParts,
 };
+use handlebars_markup::check::check_template;
 use std::alloc::Global;
+use std::collections::BTreeSet;
 use std::io;
 use std::io::Write;
 
@@ -33,8 +37,8 @@ pub fn check<'a, R: TemplateReader, O: Write>(
     if let Some(folder) = task.folder {
         register(folder, &mut registry, files)?;
     }
-    let faults = registry.template_markup_faults(source.as_str(), &mut NoFiles)?;
-    let template = Template::compile(alloc, source.as_str())?;
+    let template = compile(alloc, source.as_str())?;
+    let faults = find_faults(alloc, &template, &registry)?;
     let missing = print_missing(alloc, &template, &registry, out)?;
     print_locations(&faults, missing, out)
 }
@@ -45,14 +49,41 @@ fn register<'a, R: TemplateReader>(
     registry: &mut Registry,
     files: &mut R,
 ) -> Result<(), Failure<'a>> {
-    match files.list(folder) {
-        Ok(_) => Ok(registry.register_templates_directory(
-            folder,
-            DirectorySourceOptions::default(),
-            files,
-        )?),
-        Err(cause) => Err(Failure::of_folder(folder, cause)),
+    let mut listed = Listed::new(files, folder);
+    let answer = registry.register_templates_directory(
+        folder,
+        DirectorySourceOptions::default(),
+        &mut listed,
+    );
+    match listed.failure() {
+        Some(cause) => Err(Failure::of_folder(folder, cause)),
+        None => Ok(answer?),
     }
+}
+
+fn compile<'a>(alloc: Global, source: &str) -> Result<Template, Failure<'a>> {
+    match Template::compile(alloc, source) {
+        Ok(template) => Ok(template),
+        Err(cause) => Err(Failure::NotRendered(cause.into())),
+    }
+}
+
+// The locations of a template that prevent fixed markup, and then those of all that is registered.
+fn find_faults<'a>(
+    alloc: Global,
+    template: &Template,
+    registry: &Registry,
+) -> Result<Vec<MarkupFault>, Failure<'a>> {
+    let mut faults = Vec::new(alloc);
+    check_template(
+        alloc,
+        &BoxedEntries::first(alloc)?,
+        None,
+        template,
+        &mut faults,
+    )?;
+    faults.append(&mut registry.markup_faults(&mut NoFiles)?)?;
+    Ok(faults)
 }
 
 // Prints each call of a partial that is neither registered nor an inline partial of any template. Returns whether there is one.
@@ -64,7 +95,7 @@ fn print_missing<'a, O: Write>(
 ) -> Result<bool, Failure<'a>> {
     let mut partials = Partials {
         calls: Vec::new(alloc),
-        inline: Vec::new(alloc),
+        inline: BTreeSet::new(alloc),
     };
     collect(template, None, &mut partials)?;
     for (name, template) in registry.get_templates().iter() {
@@ -72,7 +103,7 @@ fn print_missing<'a, O: Write>(
     }
     let mut missing = false;
     for call in &partials.calls {
-        if !registry.has_template(call.name) && !partials.inline.contains(&call.name) {
+        if !registry.has_template(call.name) && !partials.inline.contains(call.name) {
             said(writeln!(out, "{call}"))?;
             missing = true;
         }

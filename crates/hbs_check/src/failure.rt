@@ -30,9 +30,9 @@ impl<'a> Failure<'a> {
         }
     }
 
-    /// Returns the failure of a reader at a folder.
-    pub fn of_folder(path: &'a str, cause: io::Error) -> Failure<'a> {
-        match cause.kind() {
+    /// Returns the failure of a reader that can't list a folder.
+    pub fn of_folder(path: &'a str, cause: ErrorKind) -> Failure<'a> {
+        match cause {
             ErrorKind::OutOfMemory => Failure::OutOfMemory,
             _ => Failure::CannotList(path),
         }

@@ -5,6 +5,7 @@
 mod arguments;
 mod check;
 mod failure;
+mod listed;
 mod partials;
 mod run;
 

@@ -2,7 +2,8 @@
 
 use handlebars::template::{DecoratorTemplate, HelperTemplate, Parameter, TemplateMapping};
 use handlebars::{JsonValue, Template, TemplateElement};
-use std::alloc::{AllocError, Global};
+use std::alloc::AllocError;
+use std::collections::BTreeSet;
 use std::fmt;
 
 /// A call of a partial by a fixed name, which has no block of its own to render instead.
@@ -28,7 +29,7 @@ impl fmt::Display for PartialCall<'_> {
 #[derive(Drop)]
 pub struct Partials<'t> {
     pub calls: Vec<PartialCall<'t>>,
-    pub inline: Vec<&'t str>,
+    pub inline: BTreeSet<&'t str>,
 }
 
 // Where an element is: the name of its template, if it has one, and its position.
@@ -125,9 +126,10 @@ fn call<'t>(
 // Adds the name that the tag of a decorator gives an inline partial, if it is fixed.
 fn define<'t>(tag: &'t DecoratorTemplate, partials: &mut Partials<'t>) -> Result<(), AllocError> {
     match tag.params.first() {
-        Some(Parameter::Literal(JsonValue::String(name))) => Ok(
-            partials.inline.push(name.as_str())?,
-        ),
+        Some(Parameter::Literal(JsonValue::String(name))) => {
+            partials.inline.insert(name.as_str())?;
+            Ok(())
+        }
         _ => Ok(()),
     }
 }
