@@ -260,11 +260,11 @@ class Drawn:
 
     def body(self, line, bound, depth):
         """The body of a block, in which its names are bound."""
-        kept = self.bound, self.turns
+        before = self.bound, self.turns
         self.bound = self.bound + bound + (["v.t", "v.o.t"] if "v" in bound else [])
         self.turns += line.startswith("each") or line.split()[0].split(".")[-1] in ("l", "kids")
         nodes = self.nodes(depth - 1)
-        self.bound, self.turns = kept
+        self.bound, self.turns = before
         return nodes
 
     def words(self):
@@ -299,18 +299,18 @@ class Drawn:
         return [self.line_start(), *self.with_block("@partial-block", depth)]
 
     def with_block(self, name, depth):
-        kept, self.handed = self.handed, True
+        before, self.handed = self.handed, True
         nodes = self.nodes(depth - 1)
-        self.handed = kept
+        self.handed = before
         words = "" if name == "@partial-block" else self.words()
         end = self.tag("/", self.one([name, name, ""]))
         return [*self.tag("#>", name + words), self.line_end(), *nodes, *end, self.line_end()]
 
     def inline(self, depth):
         name = f'"{self.one(self.names + ["i"])}"' if self.maybe(0.96) else self.one(["p", "@root.p", "5", "t"])
-        kept, self.behind = self.behind, []
+        before, self.behind = self.behind, []
         nodes = self.nodes(min(depth - 1, 1))
-        self.behind = kept
+        self.behind = before
         end = self.tag("/", self.one(["inline", ""]))
         return [*self.tag("#*", "inline " + name), self.line_end(), *nodes, *end, self.line_end()]
 

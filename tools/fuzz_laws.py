@@ -1,13 +1,13 @@
 """The laws by which tools/fuzz compares the answers of the test cases of a case."""
 import fuzz_cases
 import fuzz_pieces
-from fuzz_rows import FIRST, Refusal, by_bytes, read_refusal, read_texts
+from fuzz_rows import FIRST, Error, by_bytes, read_error, read_texts
 
 # ---- the laws: each yields the labels of the test cases that break it, and what differs
 
-ALL = ("text", "refusal", "printed", "logged")
+ALL = ("text", "error", "printed", "logged")
 # The error for data with a number that no context takes.
-NO_DATA = Refusal("Number outside the kept range", None, None, None)
+NO_DATA = Error("Number outside the kept range", None, None, None)
 
 
 def is_out(data):
@@ -29,7 +29,7 @@ class Judged:
         self.at = {label: ways["writer"] for label, ways in answers.items() if "writer" in ways}
         self.first = self.at["source"]
         # why templates don't compile
-        self.faults = {name: self.at["alone", name].refusal for name in rows.all}
+        self.faults = {name: self.at["alone", name].error for name in rows.all}
         self.broken = [it for it in by_bytes(rows.partials) if self.faults[it]]
         self.main_fault = self.faults[rows.name]
         self.no_data = is_out(self.case.data)
@@ -51,7 +51,7 @@ class Judged:
         return not self.broken and not self.main_fault and not self.no_data
 
     def for_the_limit(self):
-        return self.first.refusal is not None and self.first.refusal.reason == f"Inclusions nest deeper than {self.rows.limit}"
+        return self.first.error is not None and self.first.error.reason == f"Inclusions nest deeper than {self.rows.limit}"
 
     def ways(self):
         """All render calls of a test case agree with its writer. One that has no writer has a single render call."""
@@ -59,9 +59,9 @@ class Judged:
             writer = ways.get("writer")
             for way, it in ways.items() if writer else ():
                 handed = way in ("registry", "converted")
-                parts = ("refusal", "printed", "logged", "asked") if handed else (*ALL, "asked")
+                parts = ("error", "printed", "logged", "asked") if handed else (*ALL, "asked")
                 what = differing(it, writer, parts)
-                if handed and it.text != (None if writer.refusal else writer.text):
+                if handed and it.text != (None if writer.error else writer.text):
                     what.append(f"text: {it.text!r} / {writer.text!r}")
                 if what:
                     yield [label], f"{way} and writer: {what}"
@@ -75,7 +75,7 @@ class Judged:
             wanted = NO_DATA
         elif self.main_fault:
             wanted = self.in_unnamed(self.main_fault)
-        if wanted and (self.first.refusal != wanted or self.first.text != ""):
+        if wanted and (self.first.error != wanted or self.first.text != ""):
             yield ["source", ("alone", wanted.template or self.rows.name)], f"{self.first!r} / {wanted}"
         for name, fault in self.faults.items():
             if fault and fault.template not in (None, name) or self.at["alone", name].text:
@@ -86,14 +86,14 @@ class Judged:
 
     def name(self):
         """The same by name as by source, except for the template name of the error."""
-        wanted, named = self.first.refusal, self.at["name"]
+        wanted, named = self.first.error, self.at["name"]
         if self.no_data and self.main_fault and not self.broken:
             wanted = self.main_fault
         elif wanted and wanted.line is not None and wanted.template in (None, "Unnamed"):
             wanted = wanted._replace(template=self.rows.name)
         what = self.unlike("name", "source", ("text", "logged"))
-        if what or named.refusal != wanted:
-            yield ["source", "name"], f"{what} {named.refusal} / {wanted}"
+        if what or named.error != wanted:
+            yield ["source", "name"], f"{what} {named.error} / {wanted}"
 
     def as_first(self, label):
         what = self.unlike(label, "source")
@@ -111,10 +111,10 @@ class Judged:
         failing = self.at["fails"]
         if differing(failing, self.first):
             begins = self.first.text.startswith(failing.text.rstrip("\ufffd")) and len(failing.text) <= len(self.first.text) + 3
-            if not failing.refusal or failing.refusal.line is None or not begins or self.refused_early():
+            if not failing.error or failing.error.line is None or not begins or self.rejected_early():
                 yield ["source", "fails"], f"{failing!r} / {self.first!r}"
 
-    def refused_early(self):
+    def rejected_early(self):
         return bool(self.broken or self.main_fault or self.no_data)
 
     def takes(self):
@@ -123,7 +123,7 @@ class Judged:
             what = differing(taking, whole)
             if what:
                 yield ["source", "takes"], str(what)
-        elif not taking.refusal or taking.refusal.line is None or not whole.text.startswith(taking.text):
+        elif not taking.error or taking.error.line is None or not whole.text.startswith(taking.text):
             yield ["source", "takes"], f"{taking!r} / {whole!r}"
         elif len(taking.text.encode("utf-8")) > self.rows.takes:
             yield ["takes"], f"{taking!r} is too long"
@@ -141,13 +141,13 @@ class Judged:
         """The error of a step that makes a test case fail, the paths that it asked for, and the names that are registered after
         it."""
         answer, begin = self.at[label], f"step {number}: "
-        reason, at, fault = answer.refusal.reason if answer.refusal else "", len(begin), None
-        if not reason.startswith(begin) or answer.refusal[1:] != (None, None, None):
+        reason, at, fault = answer.error.reason if answer.error else "", len(begin), None
+        if not reason.startswith(begin) or answer.error[1:] != (None, None, None):
             return None
         if answer.text or answer.logged or answer.asked:
             return None
         if reason.startswith("refused: ", at):
-            fault, at = read_refusal(reason, at)
+            fault, at = read_error(reason, at)
             at += len("; ")
         asked, at = read_texts(reason, at + len("asked for "))
         names, at = read_texts(reason, at + len("; has "))
@@ -204,23 +204,23 @@ class Judged:
         order = partials if label == "anew" else [rows.name, *partials]
         broken = [it for it in order if self.faults[it]]
         if self.no_data:
-            yield from self.refused_as(label, NO_DATA, [])
+            yield from self.fails_as(label, NO_DATA, [])
         elif label == "anew" and self.main_fault:
-            yield from self.refused_as(label, self.in_unnamed(self.main_fault), [])
+            yield from self.fails_as(label, self.in_unnamed(self.main_fault), [])
         elif broken:
-            yield from self.refused_as(label, self.faults[broken[0]], self.read_in(order, True))
+            yield from self.fails_as(label, self.faults[broken[0]], self.read_in(order, True))
         else:
             yield from self.as_read(label, order)
 
-    def refused_as(self, label, wanted, asked):
+    def fails_as(self, label, wanted, asked):
         it = self.at[label]
-        if it.refusal != wanted or it.text or it.logged or it.asked != asked:
+        if it.error != wanted or it.text or it.logged or it.asked != asked:
             yield [label], f"{it!r} / {wanted}, asked {asked}"
 
     def as_read(self, label, order):
         other = "name" if "name" in label else "source"
         what = self.unlike(label, other)
-        asked = self.read_in(order, True) if not self.refused_early() else []
+        asked = self.read_in(order, True) if not self.rejected_early() else []
         if what or self.at[label].asked != asked:
             yield [label, other], f"{what}, asked {self.at[label].asked} / {asked}"
 
@@ -237,7 +237,7 @@ class Judged:
 
     # ---- of pieces
 
-    def told(self):
+    def emitting(self):
         """The labels of the test cases that emit pieces, each with its pieces. Of those with the same pieces, the first one."""
         rows = {}
         for label in self.answers:
@@ -262,7 +262,7 @@ class Judged:
         return [] if source is None else [source]
 
     def places(self):
-        for label, pieces in self.told():
+        for label, pieces in self.emitting():
             for first, texts in fuzz_pieces.runs(pieces):
                 if not fuzz_pieces.stands_in(self.sources(first), first, texts):
                     yield [label], f"{first}, {texts}"
@@ -270,13 +270,13 @@ class Judged:
                 yield [label], str(piece)
 
     def paths(self):
-        for label, pieces in self.told():
+        for label, pieces in self.emitting():
             for first, texts in fuzz_pieces.runs(pieces):
                 if first.path is not None and not fuzz_pieces.is_value(self.case.data, first, texts, self.escapes()):
                     yield [label], f"{first}, {texts}"
 
     def escaped(self):
-        for label, pieces in self.told() if self.escapes() else ():
+        for label, pieces in self.emitting() if self.escapes() else ():
             for it in pieces:
                 if it.kind in ("value", "word", "indentation") and set(it.text) & set(fuzz_cases.MARKS):
                     yield [label], str(it)

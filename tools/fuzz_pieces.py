@@ -17,8 +17,8 @@ def spot(piece):
 def runs(pieces):
     """Successive pieces of the same position, iteration, kind and path: the first piece and all texts, without indentations."""
     for _, group in itertools.groupby(pieces, spot):
-        told = (it for it in group if it.kind != INDENTATION)
-        for _, same in itertools.groupby(told, lambda it: (it.kind, it.path)):
+        others = (it for it in group if it.kind != INDENTATION)
+        for _, same in itertools.groupby(others, lambda it: (it.kind, it.path)):
             first, *more = same
             yield first, [first.text, *(it.text for it in more)]
 

@@ -47,18 +47,18 @@ def a_folder(draw, templates):
     for name, source in templates.items():
         put_file(folders, files, top, name + end, source)
     broken = "{{#if"
-    for name, kept in ((".zz", step.get("hidden")), ("#zz", step.get("temporary")), (".yy/zz", True), ("b.d/zz", True)):
+    for name, taken in ((".zz", step.get("hidden")), ("#zz", step.get("temporary")), (".yy/zz", True), ("b.d/zz", True)):
         if draw.random() < 0.4:
-            put_file(folders, files, top, name + end, draw.choice(OTHERS) if kept else broken)
+            put_file(folders, files, top, name + end, draw.choice(OTHERS) if taken else broken)
     for name in ("zz.txt", "p" + end + "~", "readme", "p.hbs.bak"):
         if draw.random() < 0.3:
             put_file(folders, files, top, name, broken)
     files[f"{top}/unlisted{end}"] = broken
-    for name, kept in (("zz", None), ("ww", []), ("vv", {"fault": "PermissionDenied"}), ("q" + end, None)):
+    for name, content in (("zz", None), ("ww", []), ("vv", {"fault": "PermissionDenied"}), ("q" + end, None)):
         if draw.random() < 0.3:
             folders[top].append(name + "/")
-            if kept is not None:
-                files[f"{top}/{name}"] = kept
+            if content is not None:
+                files[f"{top}/{name}"] = content
     for entries in folders.values():
         draw.shuffle(entries)
     return {**files, **folders}, step, walk(step, end, folders, files, top)
@@ -165,8 +165,8 @@ STRING = re.compile(r'"([^"\\]*(?:\\.[^"\\]*)*)"')
 ESCAPE = re.compile(r"\\(u\{([0-9a-fA-F]+)\}|.)")
 ESCAPED = {"n": "\n", "r": "\r", "t": "\t", "0": "\0", "\\": "\\", '"': '"', "'": "'"}
 PLACES = [re.compile(r", line (\d+)"), re.compile(r", column (\d+)")]
-WAY = re.compile(r"    (wanted|registry|converted|template|writer|converting|pieces): +")
-Refusal = collections.namedtuple("Refusal", "reason line column template")
+WAY = re.compile(r"    (expected|registry|converted|template|writer|converting|pieces): +")
+Error = collections.namedtuple("Error", "reason line column template")
 # The template is the name of an included one, None for an inline partial, and FIRST for the one that is rendered.
 Piece = collections.namedtuple("Piece", "kind text template place turns path")
 FIRST = False
@@ -175,13 +175,13 @@ FIRST = False
 class Answer:
     """The answer of one render call. A call that returns a text has none if it fails."""
 
-    def __init__(self, text, refusal):
-        self.text, self.refusal = text, refusal
+    def __init__(self, text, error):
+        self.text, self.error = text, error
         self.printed, self.logged, self.asked, self.pieces = None, [], [], None
 
     def __repr__(self):
-        told = {"printed": self.printed, "logged": self.logged, "asked": self.asked, "pieces": self.pieces}
-        return f"{self.text!r}, {self.refusal}" + "".join(f"\n      {key}: {it!r}" for key, it in told.items() if it)
+        more = {"printed": self.printed, "logged": self.logged, "asked": self.asked, "pieces": self.pieces}
+        return f"{self.text!r}, {self.error}" + "".join(f"\n      {key}: {it!r}" for key, it in more.items() if it)
 
 
 def unescaped(text):
@@ -213,10 +213,10 @@ def read_texts(line, at):
     return texts, at + 1
 
 
-def read_refusal(line, at):
+def read_error(line, at):
     """An error, and where it ends."""
     if not line.startswith("refused: ", at):
-        raise Stopped(f"no refusal at {at} of {line[:300]!r}")
+        raise Stopped(f"no error at {at} of {line[:300]!r}")
     reason, at = read_text(line, at + 9)
     place = []
     for it in PLACES:
@@ -226,32 +226,32 @@ def read_refusal(line, at):
     template = None
     if line.startswith(", template ", at):
         template, at = read_text(line, at + len(", template "))
-    return Refusal(reason, *place, template), at
+    return Error(reason, *place, template), at
 
 
 def read_answer(line, at):
-    text = refusal = None
+    text = error = None
     if line.startswith('"', at):
         text, at = read_text(line, at)
         at += len(", then ") if line.startswith(", then ", at) else 0
     if line.startswith("refused: ", at):
-        refusal, at = read_refusal(line, at)
+        error, at = read_error(line, at)
     if at != len(line):
         raise Stopped(f"more at {at} of {line[:300]!r}")
-    return Answer(text, refusal)
+    return Answer(text, error)
 
 
 @functools.lru_cache(maxsize=64)
-def read_pieces(told):
+def read_pieces(text):
     """The pieces of an answer. The test cases of a case mostly have the same."""
-    return tuple(read_piece(**it) for it in json.loads(told))
+    return tuple(read_piece(**it) for it in json.loads(text))
 
 
 def read_piece(kind, text, template=FIRST, line=None, column=None, turns=(), path=None):
     return Piece(kind, text, template, line and (line, column), tuple(turns), path if path is None else tuple(path))
 
 
-def read_told(answer, line):
+def read_more(answer, line):
     kind, _, _ = line.strip().partition(":")
     at = line.index(": ") + 2
     if kind == "printed":
@@ -269,19 +269,19 @@ def read_told(answer, line):
 def read_answers(printed, count):
     """The answers of each test case, by render call."""
     lines = printed.split("\n")
-    if not lines[0].endswith(f": {count} of {count} rows differ"):
-        raise Stopped(f"not all rows differ: {lines[0][-100:]!r}")
+    if not lines[0].endswith(f": {count} of {count} test cases differ"):
+        raise Stopped(f"not all test cases differ: {lines[0][-100:]!r}")
     rows, answer = [], None
     for line in lines[1:]:
         way = WAY.match(line)
-        if line.startswith("  row "):
+        if line.startswith("  test case "):
             rows.append({})
         elif way:
             answer = rows[-1][way[1]] = read_answer(line, way.end())
         elif line:
-            read_told(answer, line)
+            read_more(answer, line)
     for row in rows:
-        del row["wanted"]
+        del row["expected"]
     if len(rows) != count:
-        raise Stopped(f"{len(rows)} of {count} rows are told")
+        raise Stopped(f"{len(rows)} of {count} test cases are printed")
     return rows

@@ -48,7 +48,7 @@ class Run:
         closed = self.given("closed").decode().split()
         with tempfile.TemporaryDirectory() as room:
             asked = pathlib.Path(room) / "asked"
-            env = {"LD_PRELOAD": refuser, "ASKED_FILES": str(asked), **refusal_of(self.given("refused").decode().split())}
+            env = {"LD_PRELOAD": refuser, "ASKED_FILES": str(asked), **error_of(self.given("refused").decode().split())}
             streams = {it: broken_pipe() if it in closed else subprocess.PIPE for it in STREAMS}
             ran = subprocess.run(
                 [self.program, *words], cwd=self.where, env=env, stdin=subprocess.DEVNULL, timeout=SECONDS, check=False, **streams
@@ -59,7 +59,7 @@ class Run:
             return {**ends, "asked": asked.read_bytes()}
 
 
-def refusal_of(words):
+def error_of(words):
     """The environment that makes the error of these words occur."""
     if not words:
         return {}

@@ -65,7 +65,7 @@ def row_of_inclusions(size, stack=STACK):
     row = {"templates": {"a": "x{{> b}}", "b": "y{{> a}}"}, "limit": size, "source": "{{> a}}"}
     row.update(text=[["xy", size // 2], "x" * (size % 2)], reason=f"Inclusions nest deeper than {size}")
     row.update(line=1, column=2, template="ba"[size % 2])
-    task = Task({"row.json": json.dumps([row]).encode()}, ["row.json"], b"row.json: 0 of 1 rows differ\n")
+    task = Task({"row.json": json.dumps([row]).encode()}, ["row.json"], b"row.json: 0 of 1 test cases differ\n")
     task.program, task.stack = "tests", stack
     return task
 
@@ -82,13 +82,13 @@ def inclusions_of_itself_200_blocks():
     by Rattle's own compiler, where a block takes more of the stack."""
     ends = {"p": "{{#if @root.n}}" * 199 + "x{{#with n}}{{> p}}{{/with}}" + "{{/if}}" * 199}
     endless = {"p": "{{#if n}}" * 200 + "{{> p}}" + "{{/if}}" * 200}
-    refusal = {"reason": "Inclusions nest deeper than 64", "line": 1, "column": 1801, "template": "p"}
+    error = {"reason": "Inclusions nest deeper than 64", "line": 1, "column": 1801, "template": "p"}
     rows = [
         {"templates": ends, "source": "{{> p}}", "json": data_of_depth(63), "text": "x" * 64},
         {"templates": ends, "name": "p", "json": data_of_depth(64), "text": "x" * 65},
-        {"templates": endless, "name": "p", "json": data_of_depth(63), "text": "", **refusal},
+        {"templates": endless, "name": "p", "json": data_of_depth(63), "text": "", **error},
     ]
-    task = Task({"rows.json": json.dumps(rows).encode()}, ["rows.json"], b"rows.json: 0 of 3 rows differ\n")
+    task = Task({"rows.json": json.dumps(rows).encode()}, ["rows.json"], b"rows.json: 0 of 3 test cases differ\n")
     task.program, task.stack = "tests", 64 * MEGABYTE
     return task
 
@@ -191,14 +191,14 @@ def folder_paths_too_long():
     """Folders whose paths are longer than the system allows count as empty."""
 
     def make(folder):
-        kept = os.getcwd()
+        before = os.getcwd()
         os.chdir(folder)
         put("a.hbs", b"x")
         for _ in range(60):
             os.mkdir("d" * 200)
             os.chdir("d" * 200)
             put("b.hbs", b"x")
-        os.chdir(kept)
+        os.chdir(before)
 
     return renders(b"{{> a}}", out=b"x", folder=make)
 

@@ -27,13 +27,13 @@ def repeated(piece, count):
 
 def gathered(pieces):
     """Joins many short pieces."""
-    kept = []
+    short = []
     for piece in pieces:
-        kept.append(piece)
-        if len(kept) == 4096:
-            yield b"".join(kept)
-            kept = []
-    yield b"".join(kept)
+        short.append(piece)
+        if len(short) == 4096:
+            yield b"".join(short)
+            short = []
+    yield b"".join(short)
 
 
 def chunks(text):

@@ -35,27 +35,23 @@ impl MarkupFaultReason {
             }
             MarkupFaultReason::MadeName => ("a call in parentheses makes a name", None, ""),
             MarkupFaultReason::ReadingHelper(name) => {
-                (
-                    "the helper ",
-                    Some(name.as_str()),
-                    " may read what texts say",
-                )
+                ("the helper ", Some(name.as_str()), " may inspect strings")
             }
             MarkupFaultReason::UserDecorator(name) => {
-                ("the decorator ", Some(name.as_str()), " is one's own")
+                ("the decorator ", Some(name.as_str()), " is user-defined")
             }
             MarkupFaultReason::NameFromValue => ("a decorator takes a name from a value", None, ""),
-            MarkupFaultReason::InclusionHash => ("an inclusion is given pairs", None, ""),
+            MarkupFaultReason::InclusionHash => ("a partial call has hash arguments", None, ""),
             MarkupFaultReason::MarkedIndent => {
                 (
-                    "the indentation of an inclusion has marks of html",
+                    "the indentation of a partial call has marks of html",
                     None,
                     "",
                 )
             }
             MarkupFaultReason::OtherEscape => ("values are not escaped for html", None, ""),
             MarkupFaultReason::ReadingHook(name) => {
-                ("the hook ", Some(name.as_str()), " may read what texts say")
+                ("the hook ", Some(name.as_str()), " may inspect strings")
             }
         }
     }

@@ -73,7 +73,7 @@ pub fn refusal<'r>(fields: Fields<'r>, reason: Option<&'r str>) -> Option<Refusa
 impl fmt::Display for Expected<'_> {
     fn fmt<W: fmt::Write>(&self, f: &mut fmt::Formatter<W>) -> fmt::Result {
         let outcome = &self.outcome;
-        write!(f, "    wanted:     {outcome}")?;
+        write!(f, "    expected:   {outcome}")?;
         if let Some(marks) = self.marks {
             write!(f, "\n      marks: {marks:?}")?;
         }

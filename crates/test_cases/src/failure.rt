@@ -24,8 +24,8 @@ impl fmt::Display for Failure {
             Failure::CannotRead(cause) => write!(f, "cannot be read: {cause}"),
             Failure::NoFiles => write!(f, "has no .json file"),
             Failure::NotJson(cause) => write!(f, "not JSON: {cause}"),
-            Failure::NoArray => write!(f, "no array of rows"),
-            Failure::NoTestCase(number, cause) => write!(f, "row {number}: {cause}"),
+            Failure::NoArray => write!(f, "no array of test cases"),
+            Failure::NoTestCase(number, cause) => write!(f, "test case {number}: {cause}"),
             Failure::CannotWrite(cause) => write!(f, "cannot write: {cause}"),
             Failure::OutOfMemory => write!(f, "out of memory"),
         }

@@ -77,7 +77,7 @@ fn run_test_cases<R: Print + AllocGlobal>(
     let mut shown = String::new(rt.alloc());
     let differing = show_differences(rt.alloc(), cases, &mut shown)?;
     let count = cases.len();
-    println!(rt; "{path}: {differing} of {count} rows differ{shown}").map_err(
+    println!(rt; "{path}: {differing} of {count} test cases differ{shown}").map_err(
         Failure::CannotWrite,
     )?;
     Ok(differing == 0)
@@ -139,7 +139,7 @@ fn show_test_case(
     let rendered = test_case.rendered;
     write!(
         shown,
-        "\n  row {number}: {rendered}\n{}",
+        "\n  test case {number}: {rendered}\n{}",
         Shown(&answers, &*test_case)
     )
 }
@@ -157,6 +157,6 @@ fn show_call(
     }
     write!(
         shown,
-        "\n  row {number}: {call}\n    wanted:   {expected}\n    answered: {reply}"
+        "\n  test case {number}: {call}\n    expected: {expected}\n    answered: {reply}"
     )
 }

@@ -38,7 +38,7 @@ pub fn report_step(
     let (what, call) = (text(script, "what"), text(step, "do"));
     writeln!(report, "  {what:?}, step {number}: {call}")?;
     let expected = joined(alloc, step, "gives")?;
-    writeln!(report, "    wanted:   {expected}")?;
+    writeln!(report, "    expected: {expected}")?;
     match answer {
         Ok(answer) => writeln!(report, "    answered: {answer}"),
         Err(stop) => report_stop(step, *stop, report),

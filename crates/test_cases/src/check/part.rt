@@ -63,7 +63,7 @@ fn check_fields(
 ) -> Result<(), TestCaseFailure> {
     for (index, (name, value)) in members.iter_mut().enumerate() {
         if second == Some(index) {
-            return Err(TestCaseFailure::of_field(alloc, name.as_str(), "is a second deed"));
+            return Err(TestCaseFailure::of_field(alloc, name.as_str(), "is a second action"));
         }
         check_value(alloc, name.as_str(), value, format)?;
     }
