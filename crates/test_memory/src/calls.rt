@@ -1,8 +1,8 @@
 //! The calls that allocate, other than the ten that render and the rendering of a tree.
 
 use crate::contexts::RenderingCall;
+use crate::outcome::{Outcome, Stop};
 use crate::registering::MarkupCall;
-use crate::seen::{Seen, Stop};
 use crate::values::ListCall;
 use crate::{contexts, errors, files, registering, scopes, trees, values};
 use std::alloc::Global;
@@ -29,15 +29,15 @@ pub fn call_named(name: &str) -> Option<&'static Call> {
 }
 
 /// Returns the outcome of a call.
-pub fn seen(alloc: Global, call: &Call) -> Result<Seen, Stop> {
+pub fn outcome(alloc: Global, call: &Call) -> Result<Outcome, Stop> {
     match call {
-        Call::OfError(call) => errors::seen(alloc, call),
-        Call::OfValue(call) => values::seen(alloc, call),
-        Call::OfTree(call) => trees::seen(alloc, call),
-        Call::OfScope(call) => scopes::seen(alloc, call),
-        Call::OfContext(call) => contexts::seen(alloc, call),
-        Call::OfRegistry(call) => registering::seen(alloc, call),
-        Call::OfFiles(call) => files::seen(alloc, call),
+        Call::OfError(call) => errors::outcome(alloc, call),
+        Call::OfValue(call) => values::outcome(alloc, call),
+        Call::OfTree(call) => trees::outcome(alloc, call),
+        Call::OfScope(call) => scopes::outcome(alloc, call),
+        Call::OfContext(call) => contexts::outcome(alloc, call),
+        Call::OfRegistry(call) => registering::outcome(alloc, call),
+        Call::OfFiles(call) => files::outcome(alloc, call),
     }
 }
 

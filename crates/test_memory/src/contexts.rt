@@ -1,10 +1,10 @@
 //! Render contexts: if memory runs out, a context is unchanged or, if it was rendering, has failed.
 
-use crate::bench::{Both, Scene, has_failed};
 use crate::given::data_of;
+use crate::outcome::{Outcome, Stop, if_holds, of_error, of_unit};
 use crate::pair::Pair;
 use crate::scopes::{DATA, of_found};
-use crate::seen::{Seen, Stop, if_holds, of_error, of_unit};
+use crate::setup::{Both, Scene, has_failed};
 use crate::test_case::{PLAIN, TestCase};
 use handlebars::template::Parameter;
 use handlebars::{
@@ -39,7 +39,7 @@ pub enum RenderingCall {
 }
 
 /// Returns the outcome of a call.
-pub fn seen(alloc: Global, call: &Call) -> Result<Seen, Stop> {
+pub fn outcome(alloc: Global, call: &Call) -> Result<Outcome, Stop> {
     match call {
         Call::New => made(alloc),
         Call::PushBlock => pushed(alloc),
@@ -52,18 +52,18 @@ pub fn seen(alloc: Global, call: &Call) -> Result<Seen, Stop> {
 
 // ---- the state of a context
 
-fn made(alloc: Global) -> Result<Seen, Stop> {
+fn made(alloc: Global) -> Result<Outcome, Stop> {
     let name = String::from_str(alloc, "page")?;
     match RenderContext::new(alloc, Some(&name)) {
-        Ok(rc) => Ok(Seen::answer_if(rc.get_root_template_name() == Some(&name))),
-        Err(AllocError) => Ok(Seen::OutOfMemory),
+        Ok(rc) => Ok(Outcome::answer_if(rc.get_root_template_name() == Some(&name))),
+        Err(AllocError) => Ok(Outcome::OutOfMemory),
     }
 }
 
 // More blocks than a new context has capacity for.
 const BLOCKS: u64 = 16;
 
-fn pushed(alloc: Global) -> Result<Seen, Stop> {
+fn pushed(alloc: Global) -> Result<Outcome, Stop> {
     let mut rc = RenderContext::new(alloc, None)?;
     for index in 0..BLOCKS {
         let answer = rc.push_block(block_of(alloc, index)?);
@@ -72,7 +72,7 @@ fn pushed(alloc: Global) -> Result<Seen, Stop> {
             return Ok(of_unit(answer).if_so(before));
         }
     }
-    Ok(Seen::answer_if(nearest_index(&rc) == BLOCKS.checked_sub(1)))
+    Ok(Outcome::answer_if(nearest_index(&rc) == BLOCKS.checked_sub(1)))
 }
 
 fn block_of(alloc: Global, index: u64) -> Result<BlockContext, Stop> {
@@ -86,7 +86,7 @@ fn nearest_index(rc: &RenderContext) -> Option<u64> {
     rc.block()?.get_local_var("index")?.as_u64()
 }
 
-fn bound(alloc: Global) -> Result<Seen, Stop> {
+fn bound(alloc: Global) -> Result<Outcome, Stop> {
     let mut rc = RenderContext::new(alloc, None)?;
     rc.register_local_helper("other", "len", Vec::new(alloc))?;
     let answer = rc.register_local_helper("name", "eq", Vec::new(alloc));
@@ -101,20 +101,20 @@ fn is_bound(rc: &RenderContext, name: &str, registered: &str) -> bool {
     }
 }
 
-fn evaluated(alloc: Global) -> Result<Seen, Stop> {
+fn evaluated(alloc: Global) -> Result<Outcome, Stop> {
     let rc = RenderContext::new(alloc, None)?;
     let data = data_of(alloc, DATA)?;
     Ok(of_found(rc.evaluate(&data, "a.[1].b")).if_so(!rc.has_failed()))
 }
 
-fn put(alloc: Global) -> Result<Seen, Stop> {
+fn put(alloc: Global) -> Result<Outcome, Stop> {
     let mut rc = RenderContext::new(alloc, None)?;
     let mut out = StringOutput::new(alloc);
     let answer = indent_aware_write("a\n", &mut rc, &mut out);
     let written = out.into_string();
     let (newline, content) = (rc.get_trailine_newline(), rc.get_content_produced());
     match answer {
-        Ok(()) => Ok(Seen::answer_if(newline && content && written.as_str() == "a\n")),
+        Ok(()) => Ok(Outcome::answer_if(newline && content && written.as_str() == "a\n")),
         Err(error) => Ok(of_error(&error).if_so(!newline && !content && written.is_empty())),
     }
 }
@@ -135,20 +135,20 @@ const SOURCE: &str =
 const WRITTEN_TEXT: &str = "1y2y";
 
 // The context fails exactly if there is an error.
-fn of_rendering(alloc: Global, call: &RenderingCall) -> Result<Seen, Stop> {
+fn of_rendering(alloc: Global, call: &RenderingCall) -> Result<Outcome, Stop> {
     let both = Both::of(alloc, &GIVEN)?;
     let mut scene = Scene::of(alloc, SOURCE)?;
-    let seen = seen_of(alloc, call, &both.pair, &mut scene);
-    let failed = !matches!(seen, Ok(Seen::Answer));
-    if_holds(seen, scene.holds(alloc, &both, failed))
+    let outcome = outcome_of(alloc, call, &both.pair, &mut scene);
+    let failed = !matches!(outcome, Ok(Outcome::Answer));
+    if_holds(outcome, scene.holds(alloc, &both, failed))
 }
 
-fn seen_of(
+fn outcome_of(
     alloc: Global,
     call: &RenderingCall,
     pair: &Pair,
     scene: &mut Scene,
-) -> Result<Seen, Stop> {
+) -> Result<Outcome, Stop> {
     match call {
         RenderingCall::Expand => Ok(expanded(alloc, pair, scene)),
         RenderingCall::ExpandAsName => Ok(expanded_as_name(alloc, pair, scene)),
@@ -167,36 +167,36 @@ fn parameter(template: &Template) -> Option<&Parameter> {
     }
 }
 
-fn expanded(alloc: Global, pair: &Pair, scene: &mut Scene) -> Seen {
+fn expanded(alloc: Global, pair: &Pair, scene: &mut Scene) -> Outcome {
     let Pair { registry, data } = pair;
     let Scene { template, rc } = scene;
     match parameter(template) {
         Some(param) => match param.expand(alloc, registry, data, rc, &Discard) {
-            Ok(value) => Seen::answer_if(value.value().as_u64() == Some(2)),
+            Ok(value) => Outcome::answer_if(value.value().as_u64() == Some(2)),
             Err(error) => of_error(&error),
         },
-        None => Seen::Other,
+        None => Outcome::Other,
     }
 }
 
-fn expanded_as_name(alloc: Global, pair: &Pair, scene: &mut Scene) -> Seen {
+fn expanded_as_name(alloc: Global, pair: &Pair, scene: &mut Scene) -> Outcome {
     let Pair { registry, data } = pair;
     let Scene { template, rc } = scene;
     match parameter(template) {
         Some(param) => match param.expand_as_name(alloc, registry, data, rc, &Discard) {
-            Ok(name) => Seen::answer_if(name.as_str() == "2"),
+            Ok(name) => Outcome::answer_if(name.as_str() == "2"),
             Err(error) => of_error(&error),
         },
-        None => Seen::Other,
+        None => Outcome::Other,
     }
 }
 
 // Returns the outcome of executing a decorator. Its partial is registered, or the context has failed.
-fn executed(alloc: Global, whole: bool, pair: &Pair, scene: &mut Scene) -> Seen {
+fn executed(alloc: Global, whole: bool, pair: &Pair, scene: &mut Scene) -> Outcome {
     let answer = execute(alloc, whole, pair, scene);
     let there = scene.rc.get_partial("h").is_some();
     match answer {
-        Ok(()) => Seen::answer_if(there),
+        Ok(()) => Outcome::answer_if(there),
         Err(error) => {
             let again = execute(alloc, whole, pair, scene);
             of_error(&error).if_so(!there && has_failed(&again))
@@ -214,7 +214,7 @@ fn execute(alloc: Global, whole: bool, pair: &Pair, scene: &mut Scene) -> Result
     }
 }
 
-fn written(alloc: Global, pair: &Pair, scene: &mut Scene) -> Seen {
+fn written(alloc: Global, pair: &Pair, scene: &mut Scene) -> Outcome {
     let mut out = StringOutput::new(alloc);
     let Pair { registry, data } = pair;
     let Scene { template, rc } = scene;
@@ -226,22 +226,22 @@ fn written(alloc: Global, pair: &Pair, scene: &mut Scene) -> Seen {
 }
 
 // Returns the outcome of writing a text: this text, or a prefix of it if memory ran out.
-fn of_written(answer: Result<(), RenderError>, held: String, expected: &str) -> Seen {
+fn of_written(answer: Result<(), RenderError>, held: String, expected: &str) -> Outcome {
     match answer {
-        Ok(()) => Seen::answer_if(held.as_str() == expected),
+        Ok(()) => Outcome::answer_if(held.as_str() == expected),
         Err(error) => of_error(&error).if_so(expected.starts_with(held.as_str())),
     }
 }
 
-fn returned(alloc: Global, pair: &Pair, scene: &mut Scene) -> Seen {
+fn returned(alloc: Global, pair: &Pair, scene: &mut Scene) -> Outcome {
     let Pair { registry, data } = pair;
     let Scene { template, rc } = scene;
     match template.elements.first() {
         Some(element) => match element.renders(alloc, registry, data, rc, &Discard) {
-            Ok(text) => Seen::answer_if(text.as_str() == WRITTEN_TEXT),
+            Ok(text) => Outcome::answer_if(text.as_str() == WRITTEN_TEXT),
             Err(error) => of_error(&error),
         },
-        None => Seen::Other,
+        None => Outcome::Other,
     }
 }
 
@@ -256,7 +256,7 @@ fn tag(alloc: Global) -> Result<Decorator<'static>, Stop> {
     Ok(Decorator::new(name, Vec::new(alloc), hash, None, Some(indent)))
 }
 
-fn included(alloc: Global, pair: &Pair, scene: &mut Scene) -> Result<Seen, Stop> {
+fn included(alloc: Global, pair: &Pair, scene: &mut Scene) -> Result<Outcome, Stop> {
     let tag = tag(alloc)?;
     let mut out = StringOutput::new(alloc);
     let (registry, data, rc) = (&pair.registry, &pair.data, &mut scene.rc);

@@ -1,7 +1,7 @@
 //! Errors: if there is no memory for an error's text, its reason is out of memory, and it has nothing else.
 
 use crate::given::value_of;
-use crate::seen::{Seen, Stop, of_error, of_template_error, of_text};
+use crate::outcome::{Outcome, Stop, of_error, of_template_error, of_text};
 use handlebars::{RenderError, RenderErrorReason, TemplateError, TemplateErrorReason};
 use std::alloc::Global;
 
@@ -17,7 +17,7 @@ pub enum Call {
 }
 
 /// Returns the outcome of a call.
-pub fn seen(alloc: Global, call: &Call) -> Result<Seen, Stop> {
+pub fn outcome(alloc: Global, call: &Call) -> Result<Outcome, Stop> {
     match call {
         Call::New => of_reason(alloc, RenderError::new(alloc, "fault"), "fault"),
         Call::StrictError => strict_error(alloc),
@@ -29,12 +29,12 @@ pub fn seen(alloc: Global, call: &Call) -> Result<Seen, Stop> {
     }
 }
 
-fn of_reason(alloc: Global, error: RenderError, expected: &str) -> Result<Seen, Stop> {
+fn of_reason(alloc: Global, error: RenderError, expected: &str) -> Result<Outcome, Stop> {
     if of_error(&error).is_out_of_memory() {
-        return Ok(Seen::OutOfMemory.if_so(is_bare(&error)));
+        return Ok(Outcome::OutOfMemory.if_so(is_bare(&error)));
     }
     let text = error.reason().to_string(alloc)?;
-    Ok(Seen::answer_if(text.as_str() == expected))
+    Ok(Outcome::answer_if(text.as_str() == expected))
 }
 
 // Returns whether the error has no name and no position.
@@ -42,29 +42,29 @@ fn is_bare(error: &RenderError) -> bool {
     error.template_name.is_none() && error.line_no.is_none() && error.column_no.is_none()
 }
 
-fn strict_error(alloc: Global) -> Result<Seen, Stop> {
+fn strict_error(alloc: Global) -> Result<Outcome, Stop> {
     let path = String::from_str(alloc, "a.b")?;
     let error = RenderError::strict_error(alloc, Some(&path));
     let expected = "Failed to access variable in strict mode Some(\"a.b\")";
     of_reason(alloc, error, expected)
 }
 
-fn from_error(alloc: Global) -> Result<Seen, Stop> {
+fn from_error(alloc: Global) -> Result<Outcome, Stop> {
     let cause = value_of(alloc, r#"{"k":[1,"a"]}"#)?;
     let error = RenderError::from_error(alloc, "info", &cause);
     of_reason(alloc, error, r#"Nested error: {"k":[1,"a"]}"#)
 }
 
-fn in_template(alloc: Global) -> Result<Seen, Stop> {
+fn in_template(alloc: Global) -> Result<Outcome, Stop> {
     let name = String::from_str(alloc, "page")?;
     let error = RenderError::from(RenderErrorReason::Unimplemented).in_template(alloc, &name);
     if of_error(&error).is_out_of_memory() {
-        return Ok(Seen::OutOfMemory.if_so(is_bare(&error)));
+        return Ok(Outcome::OutOfMemory.if_so(is_bare(&error)));
     }
-    Ok(Seen::answer_if(error.template_name == Some(name)))
+    Ok(Outcome::answer_if(error.template_name == Some(name)))
 }
 
-fn printed(alloc: Global) -> Result<Seen, Stop> {
+fn printed(alloc: Global) -> Result<Outcome, Stop> {
     let error = RenderError::new(alloc, "fault").at(3, 4);
     if of_error(&error).is_out_of_memory() {
         return Err(Stop::Memory);
@@ -73,12 +73,12 @@ fn printed(alloc: Global) -> Result<Seen, Stop> {
     Ok(of_text(error.to_string(alloc), expected))
 }
 
-fn at(alloc: Global) -> Seen {
+fn at(alloc: Global) -> Outcome {
     let error = TemplateError::of(TemplateErrorReason::NestedSubexpression).at(alloc, "ab", 1, 2);
     if of_template_error(&error).is_out_of_memory() {
-        return Seen::OutOfMemory.if_so(error.pos().is_none() && error.name().is_none());
+        return Outcome::OutOfMemory.if_so(error.pos().is_none() && error.name().is_none());
     }
-    Seen::answer_if(error.pos() == Some((1, 2)))
+    Outcome::answer_if(error.pos() == Some((1, 2)))
 }
 
 const PRINTED: &str = r#"Template error: nested subexpression is not supported
@@ -90,7 +90,7 @@ const PRINTED: &str = r#"Template error: nested subexpression is not supported
      = reason: nested subexpression is not supported
 "#;
 
-fn template_printed(alloc: Global) -> Result<Seen, Stop> {
+fn template_printed(alloc: Global) -> Result<Outcome, Stop> {
     let error = TemplateError::of(TemplateErrorReason::NestedSubexpression).at(alloc, "ab", 1, 1);
     if of_template_error(&error).is_out_of_memory() {
         return Err(Stop::Memory);

@@ -1,7 +1,7 @@
 //! Files and folders: if a folder fails, the files before the error stay registered; dev mode reads files again.
 
+use crate::outcome::{Outcome, Stop, of_error, of_stored, of_template_error};
 use crate::pair::Pair;
-use crate::seen::{Seen, Stop, of_error, of_stored, of_template_error};
 use handlebars::{
     DirectorySourceOptions, EntryKind, RenderError, TemplateError, TemplateErrorReason,
     TemplateReader,
@@ -20,7 +20,7 @@ pub enum Call {
 }
 
 /// Returns the outcome of a call.
-pub fn seen(alloc: Global, call: &Call) -> Result<Seen, Stop> {
+pub fn outcome(alloc: Global, call: &Call) -> Result<Outcome, Stop> {
     match call {
         Call::RegisterFile { dev } => file(alloc, *dev),
         Call::RegisterFolder { dev } => folder(alloc, *dev),
@@ -106,26 +106,26 @@ fn listed(
 
 // ---- a file
 
-fn file(alloc: Global, dev: bool) -> Result<Seen, Stop> {
+fn file(alloc: Global, dev: bool) -> Result<Outcome, Stop> {
     let mut pair = Pair::with(alloc, &[("t", "old")])?;
     pair.registry.set_dev_mode(dev);
     let mut files = Shelf::new(alloc);
-    let seen = registered_file(&mut pair, &mut files);
+    let outcome = registered_file(&mut pair, &mut files);
     // Whether the text was remembered shows once the file has another one.
     files.page = "B";
     let unchanged = has_one(&pair, dev);
     let text = rendered(&pair, "t", &mut files)?;
-    Ok(seen.if_so(unchanged && text.as_str() == page_after(seen, dev)))
+    Ok(outcome.if_so(unchanged && text.as_str() == page_after(outcome, dev)))
 }
 
-fn registered_file(pair: &mut Pair, files: &mut Shelf) -> Seen {
+fn registered_file(pair: &mut Pair, files: &mut Shelf) -> Outcome {
     of_stored(&pair.registry.register_template_file("t", "t.hbs", files))
 }
 
-fn page_after(seen: Seen, dev: bool) -> &'static str {
-    match (seen, dev) {
-        (Seen::Answer, true) => "B",
-        (Seen::Answer, false) => "A",
+fn page_after(outcome: Outcome, dev: bool) -> &'static str {
+    match (outcome, dev) {
+        (Outcome::Answer, true) => "B",
+        (Outcome::Answer, false) => "A",
         _ => "old",
     }
 }
@@ -172,41 +172,41 @@ fn registered(pair: &mut Pair, files: &mut Shelf) -> Result<(), TemplateError> {
 
 // If memory runs out, the first templates are registered. They may be both, since entries that aren't templates come after
 // them.
-fn folder(alloc: Global, dev: bool) -> Result<Seen, Stop> {
+fn folder(alloc: Global, dev: bool) -> Result<Outcome, Stop> {
     let mut pair = pair_before(alloc, dev)?;
     let mut files = Shelf::new(alloc);
-    let seen = of_stored(&registered(&mut pair, &mut files));
+    let outcome = of_stored(&registered(&mut pair, &mut files));
     let count = count_of_templates(alloc, &pair, dev)?;
-    match seen.is_answer() {
+    match outcome.is_answer() {
         true => of_folder(&pair, &mut files, count),
-        false => Ok(seen.if_so(count.is_some())),
+        false => Ok(outcome.if_so(count.is_some())),
     }
 }
 
-fn of_folder(pair: &Pair, files: &mut Shelf, count: Option<usize>) -> Result<Seen, Stop> {
+fn of_folder(pair: &Pair, files: &mut Shelf, count: Option<usize>) -> Result<Outcome, Stop> {
     let text = rendered(pair, "b", files)?;
-    Ok(Seen::answer_if(count == Some(2) && text.as_str() == "C!"))
+    Ok(Outcome::answer_if(count == Some(2) && text.as_str() == "C!"))
 }
 
 // The second file, `b`, is rejected at its first tag. If memory runs out, that may be before the first file.
-fn rejected_folder(alloc: Global) -> Result<Seen, Stop> {
+fn rejected_folder(alloc: Global) -> Result<Outcome, Stop> {
     let mut pair = pair_before(alloc, false)?;
     let mut files = Shelf::new(alloc);
     files.broken = true;
     let answer = registered(&mut pair, &mut files);
     let count = count_of_templates(alloc, &pair, false);
     match answer {
-        Ok(()) => Ok(Seen::Other),
+        Ok(()) => Ok(Outcome::Other),
         Err(error) => of_broken(&error, count),
     }
 }
 
-fn of_broken(error: &TemplateError, count: Result<Option<usize>, Stop>) -> Result<Seen, Stop> {
+fn of_broken(error: &TemplateError, count: Result<Option<usize>, Stop>) -> Result<Outcome, Stop> {
     let count = count?;
     match error.reason() {
         TemplateErrorReason::InvalidSyntax(_) => {
             let there = error.pos() == Some((1, 1)) && is_named(error, "b");
-            Ok(Seen::answer_if(there && count == Some(1)))
+            Ok(Outcome::answer_if(there && count == Some(1)))
         }
         _ => Ok(of_template_error(error).if_so(count == Some(0) || count == Some(1))),
     }
@@ -229,19 +229,19 @@ fn dev_pair(alloc: Global, files: &mut Shelf) -> Result<Pair, Stop> {
     Ok(pair)
 }
 
-fn read_anew(alloc: Global) -> Result<Seen, Stop> {
+fn read_anew(alloc: Global) -> Result<Outcome, Stop> {
     let mut files = Shelf::new(alloc);
     let mut pair = dev_pair(alloc, &mut files)?;
     files.page = "B{{> b}}";
-    let seen = of_page(&pair, &mut files);
+    let outcome = of_page(&pair, &mut files);
     pair.registry.set_dev_mode(false);
     let before = rendered(&pair, "t", &mut files)?;
-    Ok(seen.if_so(before.as_str() == "A"))
+    Ok(outcome.if_so(before.as_str() == "A"))
 }
 
-fn of_page(pair: &Pair, files: &mut Shelf) -> Seen {
+fn of_page(pair: &Pair, files: &mut Shelf) -> Outcome {
     match rendered(pair, "t", files) {
-        Ok(text) => Seen::answer_if(text.as_str() == "BC!"),
+        Ok(text) => Outcome::answer_if(text.as_str() == "BC!"),
         Err(error) => of_error(&error),
     }
 }

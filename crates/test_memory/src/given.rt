@@ -1,6 +1,6 @@
 //! Data and values for cases.
 
-use crate::seen::Stop;
+use crate::outcome::Stop;
 use handlebars::{Context, JsonValue};
 use std::alloc::Global;
 

@@ -7,18 +7,18 @@
 //! Without arguments, the program runs all cases and prints the outcome of each.
 #![tactic(auto)]
 
-mod bench;
 mod calls;
 mod contexts;
 mod errors;
 mod files;
 mod given;
+mod outcome;
 mod pair;
 mod registering;
 mod render_calls;
 mod run;
 mod scopes;
-mod seen;
+mod setup;
 mod test_case;
 mod trees;
 mod values;

@@ -1,7 +1,7 @@
 //! A registry and data.
 
 use crate::given::data_of;
-use crate::seen::Stop;
+use crate::outcome::Stop;
 use handlebars::{Context, EscapeKind, Registry, TemplateError};
 use std::alloc::{AllocError, Global};
 

@@ -1,8 +1,8 @@
 //! Registrations: one that fails changes nothing.
 
 use crate::given::data_of;
+use crate::outcome::{Outcome, Stop, of_error, of_stored, of_template_error, of_unit};
 use crate::pair::Pair;
-use crate::seen::{Seen, Stop, of_error, of_stored, of_template_error, of_unit};
 use handlebars::{
     BuiltIn, DecoratorDef, DecoratorEntry, HelperDef, HelperEntry, Markup, MarkupFault, NoFiles,
     RenderError, RenderErrorReason, Template, TemplateError, TemplateErrorReason,
@@ -35,7 +35,7 @@ pub enum MarkupCall {
 }
 
 /// Returns the outcome of a call.
-pub fn seen(alloc: Global, call: &Call) -> Result<Seen, Stop> {
+pub fn outcome(alloc: Global, call: &Call) -> Result<Outcome, Stop> {
     match call {
         Call::New => made(alloc),
         Call::RegisterTree => tree(alloc),
@@ -51,11 +51,11 @@ pub fn seen(alloc: Global, call: &Call) -> Result<Seen, Stop> {
     }
 }
 
-fn made(alloc: Global) -> Result<Seen, Stop> {
+fn made(alloc: Global) -> Result<Outcome, Stop> {
     let source = "{{#if (eq 1 1)}}a{{/if}}{{#*inline \"p\"}}b{{/inline}}{{> p}}";
     match Pair::new(alloc) {
-        Ok(pair) => Ok(Seen::answer_if(renders(&pair, source, "ab")?)),
-        Err(AllocError) => Ok(Seen::OutOfMemory),
+        Ok(pair) => Ok(Outcome::answer_if(renders(&pair, source, "ab")?)),
+        Err(AllocError) => Ok(Outcome::OutOfMemory),
     }
 }
 
@@ -71,15 +71,15 @@ fn strict_pair(alloc: Global) -> Result<Pair, Stop> {
 const NEW_SOURCE: &str = "n{{m}}";
 
 // Returns the outcome of a registration of that source as `name`, given the outcome of the call itself.
-fn of_registered(alloc: Global, pair: &Pair, seen: Seen) -> Result<Seen, Stop> {
+fn of_registered(alloc: Global, pair: &Pair, outcome: Outcome) -> Result<Outcome, Stop> {
     let mut expected = strict_pair(alloc)?;
-    if seen.is_answer() {
+    if outcome.is_answer() {
         expected.put_all(&[("name", NEW_SOURCE)])?;
     }
-    Ok(seen.if_so(pair.is_like(&expected)))
+    Ok(outcome.if_so(pair.is_like(&expected)))
 }
 
-fn tree(alloc: Global) -> Result<Seen, Stop> {
+fn tree(alloc: Global) -> Result<Outcome, Stop> {
     let mut pair = strict_pair(alloc)?;
     let name = String::from_str(alloc, "name")?;
     let template = Template::compile_with_name(alloc, NEW_SOURCE, name)?;
@@ -87,7 +87,7 @@ fn tree(alloc: Global) -> Result<Seen, Stop> {
     of_registered(alloc, &pair, of_unit(answer))
 }
 
-fn source(alloc: Global, as_partial: bool) -> Result<Seen, Stop> {
+fn source(alloc: Global, as_partial: bool) -> Result<Outcome, Stop> {
     let mut pair = strict_pair(alloc)?;
     let answer = match as_partial {
         true => pair.registry.register_partial("name", NEW_SOURCE),
@@ -97,23 +97,23 @@ fn source(alloc: Global, as_partial: bool) -> Result<Seen, Stop> {
 }
 
 // A source that is rejected changes nothing either, whether there is memory for its error or not.
-fn rejected(alloc: Global) -> Result<Seen, Stop> {
+fn rejected(alloc: Global) -> Result<Outcome, Stop> {
     let mut pair = strict_pair(alloc)?;
     let answer = pair
         .registry
         .register_template_string("name", "{{#if a}}x{{/unless}}");
-    let seen = match answer {
-        Ok(()) => Seen::Other,
+    let outcome = match answer {
+        Ok(()) => Outcome::Other,
         Err(error) => of_mismatch(&error),
     };
-    Ok(seen.if_so(pair.is_like(&strict_pair(alloc)?)))
+    Ok(outcome.if_so(pair.is_like(&strict_pair(alloc)?)))
 }
 
-fn of_mismatch(error: &TemplateError) -> Seen {
+fn of_mismatch(error: &TemplateError) -> Outcome {
     match error.reason() {
         TemplateErrorReason::MismatchingClosedHelper(opened, closing) => {
             let names = opened.as_str() == "if" && closing.as_str() == "unless";
-            Seen::answer_if(names && error.pos() == Some((1, 11)))
+            Outcome::answer_if(names && error.pos() == Some((1, 11)))
         }
         _ => of_template_error(error),
     }
@@ -150,7 +150,7 @@ fn of_part(
     answer: Result<(), AllocError>,
     source: &str,
     expected: &str,
-) -> Result<Seen, Stop> {
+) -> Result<Outcome, Stop> {
     let there = match answer.is_ok() {
         true => renders(pair, source, expected)?,
         false => has_no_part(pair, source)?,
@@ -159,7 +159,7 @@ fn of_part(
     Ok(of_unit(answer).if_so(there && unchanged))
 }
 
-fn helper(alloc: Global) -> Result<Seen, Stop> {
+fn helper(alloc: Global) -> Result<Outcome, Stop> {
     let mut pair = Pair::with(alloc, &[])?;
     let answer = pair
         .registry
@@ -167,7 +167,7 @@ fn helper(alloc: Global) -> Result<Seen, Stop> {
     of_part(&pair, answer, "{{size \"ab\"}}", "2")
 }
 
-fn user_helper(alloc: Global) -> Result<Seen, Stop> {
+fn user_helper(alloc: Global) -> Result<Outcome, Stop> {
     let mut pair = Pair::with(alloc, &[])?;
     let twice: Box<dyn HelperDef> = Box::new(alloc, Twice { alloc })?;
     let answer = pair
@@ -176,7 +176,7 @@ fn user_helper(alloc: Global) -> Result<Seen, Stop> {
     of_part(&pair, answer, "{{#twice 1}}a{{/twice}}", "aa")
 }
 
-fn decorator(alloc: Global) -> Result<Seen, Stop> {
+fn decorator(alloc: Global) -> Result<Outcome, Stop> {
     let mut pair = Pair::with(alloc, &[])?;
     let answer = pair
         .registry
@@ -185,7 +185,7 @@ fn decorator(alloc: Global) -> Result<Seen, Stop> {
     of_part(&pair, answer, source, "a")
 }
 
-fn user_decorator(alloc: Global) -> Result<Seen, Stop> {
+fn user_decorator(alloc: Global) -> Result<Outcome, Stop> {
     let mut pair = Pair::with(alloc, &[])?;
     let data = data_of(alloc, r#"{"x":1}"#)?;
     let foo: Box<dyn DecoratorDef> = Box::new(alloc, SettingData { alloc, data })?;
@@ -200,7 +200,7 @@ fn user_decorator(alloc: Global) -> Result<Seen, Stop> {
 static UNFIXED: [(&str, &str); 2] = [("a", "{{{x}}}"), ("b", "x{{len y}}")];
 
 // Returns the outcome of a call if markup isn't fixed at two locations of the registry and one of the source.
-fn of_markup(alloc: Global, call: &MarkupCall) -> Result<Seen, Stop> {
+fn of_markup(alloc: Global, call: &MarkupCall) -> Result<Outcome, Stop> {
     let pair = Pair::with(alloc, &UNFIXED)?;
     let (registry, files) = (&pair.registry, &mut NoFiles);
     match call {
@@ -213,22 +213,22 @@ fn of_markup(alloc: Global, call: &MarkupCall) -> Result<Seen, Stop> {
 }
 
 // A source whose markup is fixed, with an empty registry.
-fn judged_source(alloc: Global) -> Result<Seen, Stop> {
+fn judged_source(alloc: Global) -> Result<Outcome, Stop> {
     let pair = Pair::with(alloc, &[])?;
     let (source, files) = ("<p>{{#if a}}{{b}}{{/if}}", &mut NoFiles);
     Ok(of_judgement(pair.registry.template_markup_is_fixed(source, files), true))
 }
 
-fn of_judgement(answer: Result<Markup, RenderError>, is_fixed: bool) -> Seen {
+fn of_judgement(answer: Result<Markup, RenderError>, is_fixed: bool) -> Outcome {
     match answer {
-        Ok(markup) => Seen::answer_if(matches!(markup, Markup::Fixed) == is_fixed),
+        Ok(markup) => Outcome::answer_if(matches!(markup, Markup::Fixed) == is_fixed),
         Err(error) => of_error(&error),
     }
 }
 
-fn of_faults(answer: Result<Vec<MarkupFault>, RenderError>, count: usize) -> Seen {
+fn of_faults(answer: Result<Vec<MarkupFault>, RenderError>, count: usize) -> Outcome {
     match answer {
-        Ok(faults) => Seen::answer_if(faults.len() == count),
+        Ok(faults) => Outcome::answer_if(faults.len() == count),
         Err(error) => of_error(&error),
     }
 }

@@ -1,9 +1,9 @@
 //! The calls that render a test case.
 
-use crate::bench::{Both, Scene};
 use crate::given::{data_of, value_of};
+use crate::outcome::{Outcome, Stop, if_holds, of_error};
 use crate::pair::Pair;
-use crate::seen::{Seen, Stop, if_holds, of_error};
+use crate::setup::{Both, Scene};
 use crate::test_case::TestCase;
 use handlebars::{
     DecoratorDef, DecoratorEntry, HelperDef, HelperEntry, NoFiles, RenderError, RenderErrorReason,
@@ -130,7 +130,11 @@ pub fn has_render_call(test_case: &TestCase, render_call: &RenderCall) -> bool {
 /// Returns the outcome of a test case that is rendered by this call. Registers the user-defined helpers and decorators: a
 /// helper `twice`, which renders its body twice, a helper `steps`, which writes a text and renders its body twice, and a
 /// decorator `foo`, which sets data.
-pub fn seen(alloc: Global, test_case: &TestCase, render_call: &RenderCall) -> Result<Seen, Stop> {
+pub fn outcome(
+    alloc: Global,
+    test_case: &TestCase,
+    render_call: &RenderCall,
+) -> Result<Outcome, Stop> {
     let mut both = both_of(alloc, test_case, render_call)?;
     let registry = &mut both.pair.registry;
     let twice: Box<dyn HelperDef> = Box::new(alloc, Twice { alloc })?;
@@ -139,7 +143,7 @@ pub fn seen(alloc: Global, test_case: &TestCase, render_call: &RenderCall) -> Re
     registry.register_helper("steps", HelperEntry::Own(steps))?;
     let foo: Box<dyn DecoratorDef> = Box::new(alloc, setting(alloc)?)?;
     registry.register_decorator("foo", DecoratorEntry::Own(foo))?;
-    seen_of(alloc, test_case, render_call, &both)
+    outcome_of(alloc, test_case, render_call, &both)
 }
 
 // Returns the helper `steps`. It writes `<` and renders its body twice, the second time in a
@@ -165,12 +169,12 @@ fn both_of(alloc: Global, test_case: &TestCase, render_call: &RenderCall) -> Res
     Ok(both)
 }
 
-fn seen_of(
+fn outcome_of(
     alloc: Global,
     test_case: &TestCase,
     render_call: &RenderCall,
     both: &Both,
-) -> Result<Seen, Stop> {
+) -> Result<Outcome, Stop> {
     match render_call.renders {
         Renders::Text => returned(alloc, test_case, render_call, both),
         Renders::ToWriter => written(alloc, test_case, render_call, both),
@@ -185,7 +189,7 @@ fn returned(
     test_case: &TestCase,
     render_call: &RenderCall,
     both: &Both,
-) -> Result<Seen, Stop> {
+) -> Result<Outcome, Stop> {
     let answer = text(&both.pair, test_case, render_call);
     if_holds(of_text(alloc, test_case, &answer), both.holds())
 }
@@ -210,11 +214,11 @@ fn written(
     test_case: &TestCase,
     render_call: &RenderCall,
     both: &Both,
-) -> Result<Seen, Stop> {
+) -> Result<Outcome, Stop> {
     let mut held = Vec::new(alloc);
     let answer = write(&both.pair, test_case, render_call, &mut held);
-    let seen = of_written(alloc, test_case, &answer, held.as_slice());
-    if_holds(seen, both.holds())
+    let outcome = of_written(alloc, test_case, &answer, held.as_slice());
+    if_holds(outcome, both.holds())
 }
 
 fn write(
@@ -243,7 +247,7 @@ fn emitted(
     test_case: &TestCase,
     render_call: &RenderCall,
     both: &Both,
-) -> Result<Seen, Stop> {
+) -> Result<Outcome, Stop> {
     let whole = all_emitted(alloc, test_case, render_call, &both.pair)?;
     emitted_again(alloc, test_case, render_call, both, whole.pieces.as_slice())
 }
@@ -254,18 +258,18 @@ fn emitted_again(
     render_call: &RenderCall,
     both: &Both,
     whole: &[HeldPiece],
-) -> Result<Seen, Stop> {
+) -> Result<Outcome, Stop> {
     let mut out = HeldPieces::new(alloc);
     let answer = emit(&both.pair, test_case, render_call, &mut out);
     let emitted = out.pieces.as_slice();
-    let seen = of_answer(
+    let outcome = of_answer(
         alloc,
         test_case,
         &answer,
         emitted == whole,
         whole.starts_with(emitted),
     );
-    if_holds(seen, both.holds())
+    if_holds(outcome, both.holds())
 }
 
 // Returns all pieces of the answer.
@@ -278,8 +282,8 @@ fn all_emitted(
     let mut whole = HeldPieces::new(alloc);
     let answer = emit(pair, test_case, render_call, &mut whole);
     match of_all(alloc, test_case, &answer, &whole) {
-        Ok(Seen::Answer) => Ok(whole),
-        Ok(Seen::OutOfMemory) | Err(Stop::Memory) => Err(Stop::Memory),
+        Ok(Outcome::Answer) => Ok(whole),
+        Ok(Outcome::OutOfMemory) | Err(Stop::Memory) => Err(Stop::Memory),
         _ => Err(Stop::Broken),
     }
 }
@@ -289,7 +293,7 @@ fn of_all(
     test_case: &TestCase,
     answer: &Result<(), RenderError>,
     whole: &HeldPieces,
-) -> Result<Seen, Stop> {
+) -> Result<Outcome, Stop> {
     let text = whole.text()?;
     of_written(alloc, test_case, answer, text.as_str().as_bytes())
 }
@@ -308,7 +312,7 @@ fn emit(
     }
 }
 
-fn tree_written(alloc: Global, test_case: &TestCase, both: &Both) -> Result<Seen, Stop> {
+fn tree_written(alloc: Global, test_case: &TestCase, both: &Both) -> Result<Outcome, Stop> {
     let mut scene = Scene::of(alloc, test_case.source)?;
     let mut out = StringOutput::new(alloc);
     let answer = scene.write(alloc, &both.pair, &mut out);
@@ -320,7 +324,7 @@ fn tree_written(alloc: Global, test_case: &TestCase, both: &Both) -> Result<Seen
     )
 }
 
-fn tree_returned(alloc: Global, test_case: &TestCase, both: &Both) -> Result<Seen, Stop> {
+fn tree_returned(alloc: Global, test_case: &TestCase, both: &Both) -> Result<Outcome, Stop> {
     let mut scene = Scene::of(alloc, test_case.source)?;
     let answer = scene.text(alloc, &both.pair);
     let holds = scene.holds(alloc, both, answer.is_err());
@@ -333,9 +337,9 @@ fn of_text(
     alloc: Global,
     test_case: &TestCase,
     answer: &Result<String, RenderError>,
-) -> Result<Seen, Stop> {
+) -> Result<Outcome, Stop> {
     match answer {
-        Ok(text) => Ok(Seen::answer_if(
+        Ok(text) => Ok(Outcome::answer_if(
             test_case.refusal.is_none() && text.as_str() == test_case.text,
         )),
         Err(error) => of_refusal(alloc, test_case, error),
@@ -347,7 +351,7 @@ fn of_written(
     test_case: &TestCase,
     answer: &Result<(), RenderError>,
     held: &[u8],
-) -> Result<Seen, Stop> {
+) -> Result<Outcome, Stop> {
     let whole = test_case.text.as_bytes();
     of_answer(
         alloc,
@@ -365,20 +369,20 @@ fn of_answer(
     answer: &Result<(), RenderError>,
     is_whole: bool,
     is_beginning: bool,
-) -> Result<Seen, Stop> {
+) -> Result<Outcome, Stop> {
     match answer {
-        Ok(()) => Ok(Seen::answer_if(test_case.refusal.is_none() && is_whole)),
+        Ok(()) => Ok(Outcome::answer_if(test_case.refusal.is_none() && is_whole)),
         Err(error) => match of_error(error) {
-            Seen::OutOfMemory => Ok(Seen::OutOfMemory.if_so(is_beginning)),
+            Outcome::OutOfMemory => Ok(Outcome::OutOfMemory.if_so(is_beginning)),
             _ => if_holds(of_refusal(alloc, test_case, error), is_whole),
         },
     }
 }
 
 // For a template that doesn't compile, the printed reason and the position are those of the template's error.
-fn of_refusal(alloc: Global, test_case: &TestCase, error: &RenderError) -> Result<Seen, Stop> {
+fn of_refusal(alloc: Global, test_case: &TestCase, error: &RenderError) -> Result<Outcome, Stop> {
     match error.reason() {
-        RenderErrorReason::OutOfMemory => Ok(Seen::OutOfMemory),
+        RenderErrorReason::OutOfMemory => Ok(Outcome::OutOfMemory),
         RenderErrorReason::TemplateError(cause) => {
             of_printed(test_case, cause.reason().to_string(alloc), cause.pos())
         }
@@ -397,12 +401,12 @@ fn of_printed(
     test_case: &TestCase,
     printed: Result<String, AllocError>,
     position: Option<(usize, usize)>,
-) -> Result<Seen, Stop> {
+) -> Result<Outcome, Stop> {
     let text = printed?;
     match test_case.refusal {
         Some((reason, line, column)) => {
-            Ok(Seen::answer_if(text.as_str() == reason && position == Some((line, column))))
+            Ok(Outcome::answer_if(text.as_str() == reason && position == Some((line, column))))
         }
-        None => Ok(Seen::Other),
+        None => Ok(Outcome::Other),
     }
 }

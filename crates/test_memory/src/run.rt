@@ -1,8 +1,8 @@
 //! Running the program.
 
 use crate::calls::{self, CALLS, call_named};
+use crate::outcome::{Outcome, Stop, status_of, words_for};
 use crate::render_calls::{self, RENDER_CALLS, has_render_call, render_call_named};
-use crate::seen::{Seen, Stop, status_of, words_for};
 use crate::test_case::{TEST_CASES, TestCase, test_case_named};
 use std::alloc::{AllocError, Global};
 use std::rt::Env;
@@ -36,7 +36,7 @@ fn arguments<R: Env + AllocGlobal>(rt: &R) -> Result<Vec<String>, AllocError> {
 
 fn run_each(alloc: Global, arguments: &[String]) -> u8 {
     for argument in arguments {
-        let status = status_of(seen(alloc, argument.as_str()));
+        let status = status_of(outcome(alloc, argument.as_str()));
         if status != 0 {
             return status;
         }
@@ -44,20 +44,20 @@ fn run_each(alloc: Global, arguments: &[String]) -> u8 {
     0
 }
 
-fn seen(alloc: Global, argument: &str) -> Result<Seen, Stop> {
+fn outcome(alloc: Global, argument: &str) -> Result<Outcome, Stop> {
     match argument.split_once('/') {
-        Some((name, render_call)) => seen_of_test_case(alloc, name, render_call),
+        Some((name, render_call)) => outcome_of_test_case(alloc, name, render_call),
         None => match call_named(argument) {
-            Some(call) => calls::seen(alloc, call),
+            Some(call) => calls::outcome(alloc, call),
             None => Err(Stop::NoCase),
         },
     }
 }
 
-fn seen_of_test_case(alloc: Global, name: &str, render_call: &str) -> Result<Seen, Stop> {
+fn outcome_of_test_case(alloc: Global, name: &str, render_call: &str) -> Result<Outcome, Stop> {
     match (test_case_named(name), render_call_named(render_call)) {
         (Some(test_case), Some(render_call)) if has_render_call(test_case, render_call) =>
-            render_calls::seen(alloc, test_case, render_call),
+            render_calls::outcome(alloc, test_case, render_call),
         _ => Err(Stop::NoCase),
     }
 }
@@ -74,8 +74,8 @@ fn run_all<R: Print + AllocGlobal>(rt: &R) -> io::Result<u8> {
 fn run_calls<R: Print + AllocGlobal>(rt: &R) -> io::Result<u8> {
     let mut status = 0u8;
     for (name, call) in &CALLS {
-        let seen = calls::seen(rt.alloc(), call);
-        status = status.max(shown(rt, "", "", name, seen)?);
+        let outcome = calls::outcome(rt.alloc(), call);
+        status = status.max(shown(rt, "", "", name, outcome)?);
     }
     Ok(status)
 }
@@ -84,8 +84,8 @@ fn run_test_case<R: Print + AllocGlobal>(rt: &R, test_case: &TestCase) -> io::Re
     let mut status = 0u8;
     for render_call in &RENDER_CALLS {
         if has_render_call(test_case, render_call) {
-            let seen = render_calls::seen(rt.alloc(), test_case, render_call);
-            status = status.max(shown(rt, test_case.name, "/", render_call.name, seen)?);
+            let outcome = render_calls::outcome(rt.alloc(), test_case, render_call);
+            status = status.max(shown(rt, test_case.name, "/", render_call.name, outcome)?);
         }
     }
     Ok(status)
@@ -97,8 +97,8 @@ fn shown<R: Print>(
     test_case: &str,
     mark: &str,
     name: &str,
-    seen: Result<Seen, Stop>,
+    outcome: Result<Outcome, Stop>,
 ) -> io::Result<u8> {
-    println!(rt; "{test_case}{mark}{name}: {}", words_for(seen))?;
-    Ok(status_of(seen))
+    println!(rt; "{test_case}{mark}{name}: {}", words_for(outcome))?;
+    Ok(status_of(outcome))
 }

@@ -1,7 +1,7 @@
 //! Scope frames, and data: if memory runs out, a block is unchanged.
 
 use crate::given::{data_of, value_of};
-use crate::seen::{Seen, Stop, of_error, of_unit};
+use crate::outcome::{Outcome, Stop, of_error, of_unit};
 use handlebars::{
     BlockContext, BlockParamHolder, BlockParams, Context, FullPath, JsonValue, LocalVars, Path,
     PathSeg, RenderError, ScopedJson, Template,
@@ -28,7 +28,7 @@ pub enum Call {
 }
 
 /// Returns the outcome of a call.
-pub fn seen(alloc: Global, call: &Call) -> Result<Seen, Stop> {
+pub fn outcome(alloc: Global, call: &Call) -> Result<Outcome, Stop> {
     match call {
         Call::PutVariable => variable(alloc),
         Call::CloneVariables => cloned_variables(alloc),
@@ -55,7 +55,7 @@ fn is(value: Option<&JsonValue>, expected: Option<u64>) -> bool {
 }
 
 // Returns the outcome of a call after which a name has this number, and before which it has no value.
-fn of_put(answer: Result<(), AllocError>, value: Option<&JsonValue>, expected: u64) -> Seen {
+fn of_put(answer: Result<(), AllocError>, value: Option<&JsonValue>, expected: u64) -> Outcome {
     let there = match answer {
         Ok(()) => is(value, Some(expected)),
         Err(AllocError) => is(value, None),
@@ -63,20 +63,20 @@ fn of_put(answer: Result<(), AllocError>, value: Option<&JsonValue>, expected: u
     of_unit(answer).if_so(there)
 }
 
-fn variable(alloc: Global) -> Result<Seen, Stop> {
+fn variable(alloc: Global) -> Result<Outcome, Stop> {
     let mut variables = LocalVars::new(alloc);
     variables.put("other", 1u64.into())?;
     let answer = variables.put("name", 2u64.into());
-    let seen = of_put(answer, variables.get("name"), 2);
-    Ok(seen.if_so(is(variables.get("other"), Some(1))))
+    let outcome = of_put(answer, variables.get("name"), 2);
+    Ok(outcome.if_so(is(variables.get("other"), Some(1))))
 }
 
-fn cloned_variables(alloc: Global) -> Result<Seen, Stop> {
+fn cloned_variables(alloc: Global) -> Result<Outcome, Stop> {
     let mut variables = LocalVars::new(alloc);
     variables.put("name", 1u64.into())?;
     match variables.clone() {
-        Ok(copy) => Ok(Seen::answer_if(is(copy.get("name"), Some(1)))),
-        Err(AllocError) => Ok(Seen::OutOfMemory),
+        Ok(copy) => Ok(Outcome::answer_if(is(copy.get("name"), Some(1)))),
+        Err(AllocError) => Ok(Outcome::OutOfMemory),
     }
 }
 
@@ -98,7 +98,7 @@ fn is_path(holder: Option<&BlockParamHolder>) -> bool {
     }
 }
 
-fn bound_path(alloc: Global) -> Result<Seen, Stop> {
+fn bound_path(alloc: Global) -> Result<Outcome, Stop> {
     let mut params = BlockParams::new(alloc);
     params.add_value("other", 1u64.into())?;
     let answer = params.add_path("name", path_of(alloc)?);
@@ -107,36 +107,36 @@ fn bound_path(alloc: Global) -> Result<Seen, Stop> {
     Ok(of_unit(answer).if_so(there && unchanged))
 }
 
-fn bound_value(alloc: Global) -> Result<Seen, Stop> {
+fn bound_value(alloc: Global) -> Result<Outcome, Stop> {
     let mut params = BlockParams::new(alloc);
     params.add_value("other", 1u64.into())?;
     let answer = params.add_value("name", 2u64.into());
-    let seen = of_put(answer, held_value(params.get("name")), 2);
-    Ok(seen.if_so(is(held_value(params.get("other")), Some(1))))
+    let outcome = of_put(answer, held_value(params.get("name")), 2);
+    Ok(outcome.if_so(is(held_value(params.get("other")), Some(1))))
 }
 
-fn block_variable(alloc: Global) -> Result<Seen, Stop> {
+fn block_variable(alloc: Global) -> Result<Outcome, Stop> {
     let mut block = BlockContext::new(alloc);
     block.set_local_var("other", 1u64.into())?;
     let answer = block.set_local_var("name", 2u64.into());
-    let seen = of_put(answer, block.get_local_var("name"), 2);
-    Ok(seen.if_so(is(block.get_local_var("other"), Some(1))))
+    let outcome = of_put(answer, block.get_local_var("name"), 2);
+    Ok(outcome.if_so(is(block.get_local_var("other"), Some(1))))
 }
 
-fn block_param(alloc: Global) -> Result<Seen, Stop> {
+fn block_param(alloc: Global) -> Result<Outcome, Stop> {
     let mut block = BlockContext::new(alloc);
     block.set_block_param("other", BlockParamHolder::value(1u64.into()))?;
     let answer = block.set_block_param("name", BlockParamHolder::value(2u64.into()));
-    let seen = of_put(answer, held_value(block.get_block_param("name")), 2);
-    Ok(seen.if_so(is(held_value(block.get_block_param("other")), Some(1))))
+    let outcome = of_put(answer, held_value(block.get_block_param("name")), 2);
+    Ok(outcome.if_so(is(held_value(block.get_block_param("other")), Some(1))))
 }
 
-fn block_with_variables(alloc: Global) -> Result<Seen, Stop> {
+fn block_with_variables(alloc: Global) -> Result<Outcome, Stop> {
     let mut block = BlockContext::new(alloc);
     block.set_local_var("name", 1u64.into())?;
     match BlockContext::with_variables_of(&block) {
-        Ok(copy) => Ok(Seen::answer_if(is(copy.get_local_var("name"), Some(1)))),
-        Err(AllocError) => Ok(Seen::OutOfMemory),
+        Ok(copy) => Ok(Outcome::answer_if(is(copy.get_local_var("name"), Some(1)))),
+        Err(AllocError) => Ok(Outcome::OutOfMemory),
     }
 }
 
@@ -151,7 +151,7 @@ fn block_with_partial(alloc: Global) -> Result<BlockContext, Stop> {
     Ok(block)
 }
 
-fn block_partial(alloc: Global) -> Result<Seen, Stop> {
+fn block_partial(alloc: Global) -> Result<Outcome, Stop> {
     let partial = shared(alloc, "b")?;
     let mut block = block_with_partial(alloc)?;
     let answer = block.set_local_partial("name", partial);
@@ -166,9 +166,9 @@ fn block_partial(alloc: Global) -> Result<Seen, Stop> {
 pub const DATA: &str = r#"{"a":[1,{"b":"c"}]}"#;
 
 /// Returns the outcome of looking up that path.
-pub fn of_found(answer: Result<ScopedJson, RenderError>) -> Seen {
+pub fn of_found(answer: Result<ScopedJson, RenderError>) -> Outcome {
     match answer {
-        Ok(found) => Seen::answer_if(is_text(found.as_json(), "c") && has_steps(&found, 3)),
+        Ok(found) => Outcome::answer_if(is_text(found.as_json(), "c") && has_steps(&found, 3)),
         Err(error) => of_error(&error),
     }
 }
@@ -187,27 +187,27 @@ fn has_steps(found: &ScopedJson, count: usize) -> bool {
     }
 }
 
-fn wrapped(alloc: Global) -> Result<Seen, Stop> {
+fn wrapped(alloc: Global) -> Result<Outcome, Stop> {
     let expected = value_of(alloc, DATA)?;
     Ok(of_data(Context::wraps(alloc, &expected), &expected))
 }
 
-fn of_data(answer: Result<Context, RenderError>, expected: &JsonValue) -> Seen {
+fn of_data(answer: Result<Context, RenderError>, expected: &JsonValue) -> Outcome {
     match answer {
-        Ok(data) => Seen::answer_if(data.data() == expected),
+        Ok(data) => Outcome::answer_if(data.data() == expected),
         Err(error) => of_error(&error),
     }
 }
 
-fn copied(alloc: Global) -> Result<Seen, Stop> {
+fn copied(alloc: Global) -> Result<Outcome, Stop> {
     let data = data_of(alloc, DATA)?;
     match data.clone(alloc) {
-        Ok(copy) => Ok(Seen::answer_if(copy.data() == data.data())),
-        Err(AllocError) => Ok(Seen::OutOfMemory),
+        Ok(copy) => Ok(Outcome::answer_if(copy.data() == data.data())),
+        Err(AllocError) => Ok(Outcome::OutOfMemory),
     }
 }
 
-fn navigated(alloc: Global) -> Result<Seen, Stop> {
+fn navigated(alloc: Global) -> Result<Outcome, Stop> {
     let path = Path::parse(alloc, "a.[1].b")?;
     match path {
         Path::Relative((segments, _)) => of_path(alloc, segments.as_slice()),
@@ -215,24 +215,24 @@ fn navigated(alloc: Global) -> Result<Seen, Stop> {
     }
 }
 
-fn of_path(alloc: Global, segments: &[PathSeg]) -> Result<Seen, Stop> {
+fn of_path(alloc: Global, segments: &[PathSeg]) -> Result<Outcome, Stop> {
     let data = data_of(alloc, DATA)?;
     let blocks = VecDeque::new(alloc);
     Ok(of_found(data.navigate(alloc, segments, &blocks, false)))
 }
 
-fn borrowed_names(alloc: Global) -> Result<Seen, Stop> {
+fn borrowed_names(alloc: Global) -> Result<Outcome, Stop> {
     let path = path_of(alloc)?;
     match FullPath::of(path.as_slice()).names(alloc) {
-        Ok(names) => Ok(Seen::answer_if(names.len() == 1)),
-        Err(AllocError) => Ok(Seen::OutOfMemory),
+        Ok(names) => Ok(Outcome::answer_if(names.len() == 1)),
+        Err(AllocError) => Ok(Outcome::OutOfMemory),
     }
 }
 
-fn copied_names(alloc: Global) -> Result<Seen, Stop> {
+fn copied_names(alloc: Global) -> Result<Outcome, Stop> {
     let path = path_of(alloc)?;
     match FullPath::of(path.as_slice()).copied(alloc) {
-        Ok(copy) => Ok(Seen::answer_if(copy.len() == 1)),
-        Err(AllocError) => Ok(Seen::OutOfMemory),
+        Ok(copy) => Ok(Outcome::answer_if(copy.len() == 1)),
+        Err(AllocError) => Ok(Outcome::OutOfMemory),
     }
 }

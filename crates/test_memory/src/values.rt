@@ -1,7 +1,7 @@
 //! Values, paths and texts.
 
 use crate::given::value_of;
-use crate::seen::{Seen, Stop, of_error, of_text};
+use crate::outcome::{Outcome, Stop, of_error, of_text};
 use handlebars::{
     Helper, JsonRender, JsonValue, Output, Path, PathAndJson, ScopedJson, StringOutput,
     StringWriter, escape_html, html_escape, log_record, no_escape, to_json, with_indent,
@@ -38,7 +38,7 @@ pub enum ListCall {
 }
 
 /// Returns the outcome of a call.
-pub fn seen(alloc: Global, call: &Call) -> Result<Seen, Stop> {
+pub fn outcome(alloc: Global, call: &Call) -> Result<Outcome, Stop> {
     match call {
         Call::ParsePath => Ok(path(alloc)),
         Call::ToJson => converted(alloc),
@@ -65,27 +65,27 @@ const LINES: &str = "a\nb\n";
 
 const INDENTED_LINES: &str = "a\n  b\n";
 
-fn path(alloc: Global) -> Seen {
+fn path(alloc: Global) -> Outcome {
     match Path::parse(alloc, "../a.[b c].0") {
-        Ok(path) => Seen::answer_if(path.raw() == "../a.[b c].0"),
+        Ok(path) => Outcome::answer_if(path.raw() == "../a.[b c].0"),
         Err(error) => of_error(&error),
     }
 }
 
-fn converted(alloc: Global) -> Result<Seen, Stop> {
+fn converted(alloc: Global) -> Result<Outcome, Stop> {
     let expected = value_of(alloc, r#"[[1,null],"a"]"#)?;
     match to_json(alloc, &([Some(1u8), None], "a")) {
-        Ok(value) => Ok(Seen::answer_if(value == expected)),
-        Err(AllocError) => Ok(Seen::OutOfMemory),
+        Ok(value) => Ok(Outcome::answer_if(value == expected)),
+        Err(AllocError) => Ok(Outcome::OutOfMemory),
     }
 }
 
-fn of_list(alloc: Global, call: &ListCall) -> Result<Seen, Stop> {
+fn of_list(alloc: Global, call: &ListCall) -> Result<Outcome, Stop> {
     let value = value_of(alloc, LIST)?;
     of_value(alloc, call, &value)
 }
 
-fn of_value(alloc: Global, call: &ListCall, value: &JsonValue) -> Result<Seen, Stop> {
+fn of_value(alloc: Global, call: &ListCall, value: &JsonValue) -> Result<Outcome, Stop> {
     match call {
         ListCall::Render => Ok(of_text(value.render(alloc), RENDERED)),
         ListCall::RenderScoped => Ok(of_text(ScopedJson::Constant(value).render(alloc), RENDERED)),
@@ -95,15 +95,15 @@ fn of_value(alloc: Global, call: &ListCall, value: &JsonValue) -> Result<Seen, S
     }
 }
 
-fn with_path(alloc: Global, value: &JsonValue) -> Seen {
+fn with_path(alloc: Global, value: &JsonValue) -> Outcome {
     let param = PathAndJson::new(None, ScopedJson::Constant(value));
     of_text(param.render(alloc), RENDERED)
 }
 
-fn derived(alloc: Global, value: &JsonValue) -> Seen {
+fn derived(alloc: Global, value: &JsonValue) -> Outcome {
     match ScopedJson::Constant(value).into_derived(alloc) {
-        Ok(derived) => Seen::answer_if(derived.as_json() == Some(value)),
-        Err(AllocError) => Seen::OutOfMemory,
+        Ok(derived) => Outcome::answer_if(derived.as_json() == Some(value)),
+        Err(AllocError) => Outcome::OutOfMemory,
     }
 }
 
@@ -115,12 +115,12 @@ fn log_call(alloc: Global, value: &JsonValue) -> Result<Helper<'_>, Stop> {
     Ok(Helper::new(name, params, hash, None, None, None, false))
 }
 
-fn log_line(alloc: Global, value: &JsonValue) -> Result<Seen, Stop> {
+fn log_line(alloc: Global, value: &JsonValue) -> Result<Outcome, Stop> {
     let call = log_call(alloc, value)?;
     match log_record(alloc, &call) {
         Ok((level, text)) => {
             let line = text.as_str() == "a: [1, [, a], [object]]";
-            Ok(Seen::answer_if(line && level == Level::Info))
+            Ok(Outcome::answer_if(line && level == Level::Info))
         }
         Err(error) => Ok(of_error(&error)),
     }
@@ -128,24 +128,24 @@ fn log_line(alloc: Global, value: &JsonValue) -> Result<Seen, Stop> {
 
 // ---- outputs: after a write error they hold a prefix, and the error is out of memory
 
-fn of_write_error(answer: &io::Result<()>, held: &str, expected: &str) -> Seen {
+fn of_write_error(answer: &io::Result<()>, held: &str, expected: &str) -> Outcome {
     match answer {
-        Ok(()) => Seen::answer_if(held == expected),
+        Ok(()) => Outcome::answer_if(held == expected),
         Err(cause) => {
-            Seen::OutOfMemory.if_so(
+            Outcome::OutOfMemory.if_so(
                 cause.kind() == ErrorKind::OutOfMemory && expected.starts_with(held),
             )
         }
     }
 }
 
-fn indented(alloc: Global) -> Seen {
+fn indented(alloc: Global) -> Outcome {
     let mut out = StringOutput::new(alloc);
     let answer = write_indented(LINES, "  ", &mut out);
     of_write_error(&answer, out.into_string().as_str(), INDENTED_LINES)
 }
 
-fn to_output(alloc: Global) -> Seen {
+fn to_output(alloc: Global) -> Outcome {
     let mut out = StringOutput::new(alloc);
     let answer = write_twice(&mut out);
     of_write_error(&answer, out.into_string().as_str(), "abcdef")
@@ -156,7 +156,7 @@ fn write_twice(out: &mut StringOutput) -> io::Result<()> {
     out.write("def")
 }
 
-fn to_writer(alloc: Global) -> Seen {
+fn to_writer(alloc: Global) -> Outcome {
     let mut writer = StringWriter::new(alloc);
     let answer = writer.write_all(b"abcdef");
     of_write_error(&answer, writer.into_string().as_str(), "abcdef")

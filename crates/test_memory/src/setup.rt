@@ -1,7 +1,7 @@
 //! The setup of a rendering, created twice, and what holds after a rendering.
 
+use crate::outcome::Stop;
 use crate::pair::Pair;
-use crate::seen::Stop;
 use crate::test_case::TestCase;
 use handlebars::{
     RenderContext, RenderError, RenderErrorReason, Renderable, StringOutput, Template,
