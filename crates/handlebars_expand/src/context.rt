@@ -45,8 +45,9 @@ pub struct RenderContext {
     local_helpers: BTreeMap<String, LocalHelper>,
     // The null that is borrowed if a value of changed data is missing.
     null: Null,
-    // How many members of the data were looked up for paths.
+    // How many members of the data were looked up for paths, and how many of them by evaluations.
     looked_up: LookedUp,
+    evaluation_looked_up: LookedUp,
 }
 
 // Implemented explicitly, so that dropping one is a single call.
@@ -65,6 +66,7 @@ impl Drop for RenderContext {
             local_helpers: _,
             null: _,
             looked_up: _,
+            evaluation_looked_up: _,
         } = self;
     }
 }
@@ -99,6 +101,7 @@ impl RenderContext {
             local_helpers: BTreeMap::new(alloc),
             null: Null::new(),
             looked_up: LookedUp::new(),
+            evaluation_looked_up: LookedUp::new(),
         })
     }
 

@@ -321,3 +321,14 @@ pub fn node_at<'a>(rc: &RenderContext, given: &'a Json, names: &[String]) -> Opt
 {
     walk::node_at(given, names, &rc.looked_up)
 }
+
+// How many members of the data were looked up for paths, by renderings and by evaluations.
+pub fn all_looked_up(rc: &RenderContext) -> u64 {
+    rc.looked_up.members()
+}
+
+// Counts the members that were looked up since there were `before` as those of an evaluation.
+pub fn count_as_evaluation(rc: &RenderContext, before: u64) {
+    let added = all_looked_up(rc).saturating_sub(before);
+    rc.evaluation_looked_up.add(added as usize);
+}

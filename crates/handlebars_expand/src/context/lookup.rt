@@ -16,7 +16,7 @@ ghost use Rattle.handlebars_semantics.specs.Values as values;
 ghost use Rattle.handlebars_semantics.specs.Values.{Evaluates};
 ghost use Rattle.handlebars_expand.specs.View.{borrowing, read_in, state_of};
 
-use crate::context::RenderContext;
+use crate::context::{RenderContext, internal};
 use handlebars_base::error::RenderError;
 use handlebars_base::json::path::Path;
 use handlebars_base::json::value::{Json, ScopedJson};
@@ -142,7 +142,8 @@ impl RenderContext {
     {
         let reference = Path::parse(self.alloc, path)?;
         let bases = Bases::outside();
-        walk::find(
+        let before = internal::all_looked_up(self);
+        let found = walk::find(
             self.alloc,
             context.data(),
             &reference,
@@ -150,12 +151,20 @@ impl RenderContext {
             &bases,
             self.recursive_lookup,
             &self.looked_up,
-        )
+        );
+        internal::count_as_evaluation(self, before);
+        found
     }
 
-    /// Returns how many members of the data were looked up for paths: in renderings with this context, from the data itself or
-    /// from the node of a scope frame, and in its evaluations. The count stays at 2^64 - 1 once it is there.
+    /// Returns how many members of the data the renderings with this context looked up for paths, from the data itself or from
+    /// the node of a scope frame. The count is exact as long as, with that of evaluations, it is below 2^64.
     pub fn looked_up(&self) -> u64 {
-        self.looked_up.members()
+        let evaluations = self.evaluation_looked_up();
+        internal::all_looked_up(self).saturating_sub(evaluations)
+    }
+
+    /// Returns how many members of the data were looked up for paths by `evaluate`, and by `Evaluable::eval` with this context.
+    pub fn evaluation_looked_up(&self) -> u64 {
+        self.evaluation_looked_up.members()
     }
 }

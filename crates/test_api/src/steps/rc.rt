@@ -21,6 +21,7 @@ pub fn answer(
         "new" => new(alloc, rc, step),
         "evaluate" => evaluated(alloc, rc.evaluate(data, text(step, "path"))),
         "looked_up" => looked_up_since(alloc, rc, looked_up),
+        "evaluation_looked_up" => shown(alloc, rc.evaluation_looked_up()),
         "bind" => bind(alloc, rc, step, copies(alloc, items(step, "constants"))),
         "local_helper" => local_helper(alloc, rc, name),
         "has_partial" => shown(alloc, rc.get_partial(name).is_some()),

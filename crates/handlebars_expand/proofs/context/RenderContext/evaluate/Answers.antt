@@ -7,10 +7,10 @@ pub returns-in_err-reference-clause-err : goal.returns-in_err-reference-clause-e
 returns-in_err-reference-clause-err c = evaluates_nowhere _ _ _ _ _ _ c.from_residual.ensures.1 c.in_err-reference.ensures.err
 
 pub returns-clause-ok : goal.returns-clause-ok
-returns-clause-ok c = evaluates_to _ _ _ _ found_of _ _ c.in_ok-reference.ensures.ok (rw c.outside-bases.ensures.bases at (rw c.data.ensures.value at c.find.ensures.found))
+returns-clause-ok c = evaluates_to _ _ _ _ found_of _ _ c.in_ok-reference.ensures.ok (rw c.outside-bases.ensures.bases at (rw c.data.ensures.value at c.find-found.ensures.found))
 
 pub returns-clause-err : goal.returns-clause-err
-returns-clause-err c = evaluation_failed _ _ _ _ found_of _ _ c.in_ok-reference.ensures.ok (rw c.outside-bases.ensures.bases at (rw c.data.ensures.value at c.find.ensures.found))
+returns-clause-err c = evaluation_failed _ _ _ _ found_of _ _ c.in_ok-reference.ensures.ok (rw c.outside-bases.ensures.bases at (rw c.data.ensures.value at c.find-found.ensures.found))
 
-pub find-requires : goal.find-requires
-find-requires c = record { nodes = nodes-empty _ _ c.outside-bases.ensures.nodes }
+pub find-found-requires : goal.find-found-requires
+find-found-requires c = record { nodes = nodes-empty _ _ c.outside-bases.ensures.nodes }
