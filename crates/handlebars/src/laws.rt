@@ -17,7 +17,7 @@ ghost use Rattle.handlebars.specs.Dev.{ReadsFiles, ReadsFor, stored_under};
 ghost use Rattle.handlebars.specs.Files.{IsByName, Loaded, Stop, files_of, is_dev, path_under, remembered_path};
 ghost use Rattle.handlebars.specs.Folder.{FileFilter, Walkable, Walks};
 ghost use Rattle.handlebars.specs.Markup.{AreReportedOnce, NoSource};
-ghost use Rattle.handlebars.specs.Over.{HoldsRead, SameAnswers, setting_under};
+ghost use Rattle.handlebars.specs.Over.{ForName, ForSource, HoldsRead, SameAnswers, setting_under};
 ghost use Rattle.handlebars.specs.Readers.{GivesOneAnswer, HasOneEnd, IsSameList, IsSameRead};
 ghost use Rattle.handlebars.specs.View.{options_of, setting_of, setting_over, stored_tree};
 
@@ -69,11 +69,9 @@ pub fn laws_of_runs<E: UserParts>(registry: &RegistryOf<E>, context: &Context)
 /// doesn't run out, they return or write the same text, or fail with the same error.
 pub fn calls_agree<E: UserParts>(registry: &RegistryOf<E>)
     ensures names { (name : Text) (d : Data) (read : List Loaded)
-        → CallsAgree (setting_under E.registered E.user read registry.now d)
-        (FromName (stored_under read registry.now) name) }
+        → ForName CallsAgree E.registered E.user registry.now name read d }
     ensures sources { (source : Text) (d : Data) (read : List Loaded)
-        → CallsAgree (setting_under E.registered E.user read registry.now d)
-        (FromSource (options_of registry.now) source) }
+        → ForSource CallsAgree E.registered E.user registry.now source read d }
 {
     registry.entries.satisfies_law();
 }
@@ -98,13 +96,13 @@ pub fn dev_mode_law<E: UserParts>()
 /// Over such trees, indentation is spaces and tabs. What a source compiles to is such a tree.
 pub fn markup_law<E: UserParts>()
     ensures names { (r : RegistryOf E) (read : List Loaded) (d : Data) (name : Text)
-        → DataIsNoMarkup (setting_under E.registered E.user read r d) (FromName (stored_under read r) name) }
+        → ForName DataIsNoMarkup E.registered E.user r name read d }
     ensures sources { (r : RegistryOf E) (read : List Loaded) (d : Data) (source : Text)
-        → DataIsNoMarkup (setting_under E.registered E.user read r d) (FromSource (options_of r) source) }
+        → ForSource DataIsNoMarkup E.registered E.user r source read d }
     ensures named_indents { (r : RegistryOf E) (read : List Loaded) (d : Data) (name : Text)
-        → IndentsAreBlank (setting_under E.registered E.user read r d) (FromName (stored_under read r) name) }
+        → ForName IndentsAreBlank E.registered E.user r name read d }
     ensures source_indents { (r : RegistryOf E) (read : List Loaded) (d : Data) (source : Text)
-        → IndentsAreBlank (setting_under E.registered E.user read r d) (FromSource (options_of r) source) }
+        → ForSource IndentsAreBlank E.registered E.user r source read d }
     ensures compiled { CompilesSo }
 {
     escape_laws();

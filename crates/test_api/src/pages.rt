@@ -2,11 +2,11 @@
 
 ghost use Rattle.std.specs.Prelude.{◌≡◌, IfOk, OnOk, Some, false, string_bytes, true};
 ghost use Rattle.handlebars_scope.specs.Contexts.{data_of};
-ghost use Rattle.handlebars_semantics.specs.Answer.{FromName, GivesText};
+ghost use Rattle.handlebars_semantics.specs.Answer.{GivesText};
 ghost use Rattle.handlebars.specs.Calls.{Writes, WritesReading};
-ghost use Rattle.handlebars.specs.Dev.{HasRead, stored_under};
+ghost use Rattle.handlebars.specs.Dev.{HasRead};
 ghost use Rattle.handlebars.specs.Files.{is_dev};
-ghost use Rattle.handlebars.specs.Over.{setting_under};
+ghost use Rattle.handlebars.specs.Over.{ForName};
 
 use handlebars::{Context, NoFiles, RegistryOf, RenderError, TemplateReader, UserParts};
 use log::Log;
@@ -42,8 +42,8 @@ pub fn write_to<E: UserParts, W: Write, L: Log, R: TemplateReader>(
     files: &mut R,
 ) -> Result<(), RenderError>
     ensures writes { WritesReading R.reads registry.now (Some name.now) files.old files.new
-        (λ read. Writes (setting_under E.registered E.user read registry.now (data_of «data».now))
-        (FromName (stored_under read registry.now) name.now)) (W.contents writer.old) (W.contents writer.new) result }
+        (λ read. ForName Writes E.registered E.user registry.now name.now read (data_of «data».now))
+        (W.contents writer.old) (W.contents writer.new) result }
 {
     registry.render_with_context_to_write(name, data, writer, log, files)
 }
@@ -60,8 +60,8 @@ pub fn rendered_anew<E: UserParts, L: Log, R: TemplateReader>(
     files: &mut R,
 ) -> Result<String, RenderError>
     ensures text { IfOk result (λ text. (between : R) × HasRead R.reads registry.new (Some name.now) between files.new
-        (λ read. GivesText (setting_under E.registered E.user read registry.new (data_of «data».now))
-        (FromName (stored_under read registry.new) name.now) (string_bytes text))) }
+        (λ read. ForName GivesText E.registered E.user registry.new name.now read (data_of «data».now)
+        (string_bytes text))) }
     ensures dev { OnOk result (is_dev registry.new ≡ true) }
 {
     registry.set_dev_mode(true);
@@ -79,8 +79,8 @@ pub fn rendered_as_registered<E: UserParts, L: Log, R: TemplateReader>(
     files: &mut R,
 ) -> Result<String, RenderError>
     ensures text { IfOk result (λ text. HasRead R.reads registry.new (Some name.now) files.old files.new
-        (λ read. GivesText (setting_under E.registered E.user read registry.new (data_of «data».now))
-        (FromName (stored_under read registry.new) name.now) (string_bytes text))) }
+        (λ read. ForName GivesText E.registered E.user registry.new name.now read (data_of «data».now)
+        (string_bytes text))) }
     ensures dev { is_dev registry.new ≡ false }
     ensures unread { files.new ≡ files.old }
 {

@@ -16,16 +16,15 @@ ghost use Rattle.handlebars_base.specs.TemplateRefusals.{template_refusal_of};
 ghost use Rattle.handlebars_template.specs.Compile.{Compiles, compiled, rejected};
 ghost use Rattle.handlebars_template.specs.TreeView.{tree_view};
 ghost use Rattle.handlebars_scope.specs.Contexts.{data_of};
-ghost use Rattle.handlebars_semantics.specs.Answer.{FromSource, FromName, GivesText};
-ghost use Rattle.handlebars_semantics.specs.Answer.{FailsWith};
+ghost use Rattle.handlebars_semantics.specs.Answer.{FailsWith, FromName, GivesText};
 ghost use Rattle.handlebars_semantics.specs.State.{first_state};
 ghost use Rattle.handlebars_expand.specs.View.{state_of, root_of, has_failed};
 ghost use Rattle.handlebars.specs.AnswerLaws.{ObeysLaws, ObeysLawsByName};
 ghost use Rattle.handlebars.specs.Calls.{BeginsWith, Converts, ConvertsOr, Writes};
 ghost use Rattle.handlebars.specs.Calls.{WritesConverted, WritesReading, WritesSource};
-ghost use Rattle.handlebars.specs.Dev.{AsksFor, HasRead, FailsWithFiles, FailsWithSource, stored_under};
+ghost use Rattle.handlebars.specs.Dev.{AsksFor, HasRead, FailsWithFiles, FailsWithSource};
 ghost use Rattle.handlebars.specs.Files.{is_dev, overlaid_on, tree_in};
-ghost use Rattle.handlebars.specs.Over.{setting_under, setting_with};
+ghost use Rattle.handlebars.specs.Over.{ForName, ForSource, setting_under, setting_with};
 ghost use Rattle.handlebars.specs.View.{modes_of, options_of, stored_tree};
 
 use crate::registry::RegistryOf;
@@ -60,12 +59,10 @@ impl<E: UserParts> RegistryOf<E> {
     ) -> Result<String, RenderError>
         ensures ok { IfOk result (λ text. Converts T.writes «data».now
             (λ d. HasRead R.reads self.now (Some name.now) files.old files.new
-            (λ read. GivesText (setting_under E.registered E.user read self.now d)
-            (FromName (stored_under read self.now) name.now) (string_bytes text)))) }
+            (λ read. ForName GivesText E.registered E.user self.now name.now read d (string_bytes text)))) }
         ensures err { IfErr result (λ e. reason_in e ≢ out_of_memory → ConvertsOr T.writes «data».now (refusal_of e)
             (files.new ≡ files.old) (λ d. FailsWithFiles R.reads self.now (Some name.now) files.old files.new
-            (λ read f. FailsWith (setting_under E.registered E.user read self.now d)
-            (FromName (stored_under read self.now) name.now) f) e)) }
+            (λ read. ForName FailsWith E.registered E.user self.now name.now read d) e)) }
         ensures laws { ObeysLawsByName E.registered E.user self.now name.now }
         ensures asks { AsksFor R.reads self.now (Some name.now) files.old files.new }
         ensures unread { is_dev self.now ≡ false → files.new ≡ files.old }
@@ -91,16 +88,13 @@ impl<E: UserParts> RegistryOf<E> {
         files: &mut R,
     ) -> Result<String, RenderError>
         // The files are read, and the text is the definition's, with their trees overlaid on the stored ones.
-        ensures ok { IfOk result (λ text. HasRead R.reads self.now (Some name.now) files.old files.new (λ read.
-            GivesText (setting_under E.registered E.user read self.now (data_of ctx.now))
-            (FromName (stored_under read self.now) name.now)
-            (string_bytes text))) }
+        ensures ok { IfOk result (λ text. HasRead R.reads self.now (Some name.now) files.old files.new
+            (λ read. ForName GivesText E.registered E.user self.now name.now read (data_of ctx.now) (string_bytes text))) }
 
         // An error, other than out of memory, is that of a file, or the definition's with the trees of all files.
         ensures err { IfErr result (λ e. reason_in e ≢ out_of_memory
             → FailsWithFiles R.reads self.now (Some name.now) files.old files.new
-            (λ read f. FailsWith (setting_under E.registered E.user read self.now (data_of ctx.now))
-            (FromName (stored_under read self.now) name.now) f) e) }
+            (λ read. ForName FailsWith E.registered E.user self.now name.now read (data_of ctx.now)) e) }
         ensures laws { ObeysLawsByName E.registered E.user self.now name.now }
         ensures asks { AsksFor R.reads self.now (Some name.now) files.old files.new }
         ensures unread { is_dev self.now ≡ false → files.new ≡ files.old }
@@ -133,8 +127,7 @@ impl<E: UserParts> RegistryOf<E> {
     ) -> Result<(), RenderError>
         ensures writes { WritesConverted T.writes «data».now (files.new ≡ files.old)
             (λ d. WritesReading R.reads self.now (Some name.now) files.old files.new
-            (λ read. Writes (setting_under E.registered E.user read self.now d)
-            (FromName (stored_under read self.now) name.now)))
+            (λ read. ForName Writes E.registered E.user self.now name.now read d))
             (W.contents writer.old) (W.contents writer.new) result }
         ensures laws { ObeysLawsByName E.registered E.user self.now name.now }
         ensures asks { AsksFor R.reads self.now (Some name.now) files.old files.new }
@@ -161,8 +154,7 @@ impl<E: UserParts> RegistryOf<E> {
         files: &mut R,
     ) -> Result<(), RenderError>
         ensures writes { WritesReading R.reads self.now (Some name.now) files.old files.new
-            (λ read. Writes (setting_under E.registered E.user read self.now (data_of ctx.now))
-            (FromName (stored_under read self.now) name.now))
+            (λ read. ForName Writes E.registered E.user self.now name.now read (data_of ctx.now))
             (W.contents writer.old) (W.contents writer.new) result }
         ensures laws { ObeysLawsByName E.registered E.user self.now name.now }
         ensures asks { AsksFor R.reads self.now (Some name.now) files.old files.new }
@@ -230,13 +222,11 @@ impl<E: UserParts> RegistryOf<E> {
     ) -> Result<String, RenderError>
         ensures ok { IfOk result (λ text. Converts T.writes «data».now
             (λ d. HasRead R.reads self.now None files.old files.new
-            (λ read. GivesText (setting_under E.registered E.user read self.now d)
-            (FromSource (options_of self.now) source.now) (string_bytes text)))) }
+            (λ read. ForSource GivesText E.registered E.user self.now source.now read d (string_bytes text)))) }
         ensures err { IfErr result (λ e. reason_in e ≢ out_of_memory → ConvertsOr T.writes «data».now (refusal_of e)
             (files.new ≡ files.old)
             (λ d. FailsWithSource R.reads self.now (options_of self.now) source.now files.old files.new
-            (λ read f. FailsWith (setting_under E.registered E.user read self.now d)
-            (FromSource (options_of self.now) source.now) f) e)) }
+            (λ read. ForSource FailsWith E.registered E.user self.now source.now read d) e)) }
         ensures laws { ObeysLaws E.registered E.user self.now source.now }
         ensures asks { AsksFor R.reads self.now None files.old files.new }
         ensures unread { is_dev self.now ≡ false → files.new ≡ files.old }
@@ -264,18 +254,15 @@ impl<E: UserParts> RegistryOf<E> {
     ) -> Result<String, RenderError>
         // The source is compiled and the files are read, and the text is the join of the pieces of the one answer that
         // the language's definition gives with their trees overlaid on the stored ones.
-        ensures ok { IfOk result (λ text. HasRead R.reads self.now None files.old files.new (λ read.
-            GivesText (setting_under E.registered E.user read self.now (data_of ctx.now))
-            (FromSource (options_of self.now) source.now)
-            (string_bytes text))) }
+        ensures ok { IfOk result (λ text. HasRead R.reads self.now None files.old files.new
+            (λ read. ForSource GivesText E.registered E.user self.now source.now read (data_of ctx.now) (string_bytes text))) }
 
         // An error, other than out of memory, is that of the source, and no file is asked for; or it is that of a file,
         // with the kind of the system's error if the file can't be read; or it is the definition's with the trees of
         // all files: its reason, its position and its name.
         ensures err { IfErr result (λ e. reason_in e ≢ out_of_memory
             → FailsWithSource R.reads self.now (options_of self.now) source.now files.old files.new
-            (λ read f. FailsWith (setting_under E.registered E.user read self.now (data_of ctx.now))
-            (FromSource (options_of self.now) source.now) f) e) }
+            (λ read. ForSource FailsWith E.registered E.user self.now source.now read (data_of ctx.now)) e) }
 
         // There is at most one such answer, and each of its pieces comes from a tree of the run and the data.
         ensures laws { ObeysLaws E.registered E.user self.now source.now }
@@ -304,8 +291,7 @@ impl<E: UserParts> RegistryOf<E> {
     ) -> Result<(), RenderError>
         ensures writes { WritesConverted T.writes «data».now (files.new ≡ files.old)
             (λ d. WritesSource R.reads self.now (options_of self.now) source.now files.old files.new
-            (λ read. Writes (setting_under E.registered E.user read self.now d)
-            (FromSource (options_of self.now) source.now)))
+            (λ read. ForSource Writes E.registered E.user self.now source.now read d))
             (W.contents writer.old) (W.contents writer.new) result }
         ensures laws { ObeysLaws E.registered E.user self.now source.now }
         ensures asks { AsksFor R.reads self.now None files.old files.new }
@@ -332,8 +318,7 @@ impl<E: UserParts> RegistryOf<E> {
         files: &mut R,
     ) -> Result<(), RenderError>
         ensures writes { WritesSource R.reads self.now (options_of self.now) source.now files.old files.new
-            (λ read. Writes (setting_under E.registered E.user read self.now (data_of ctx.now))
-            (FromSource (options_of self.now) source.now))
+            (λ read. ForSource Writes E.registered E.user self.now source.now read (data_of ctx.now))
             (W.contents writer.old) (W.contents writer.new) result }
         ensures laws { ObeysLaws E.registered E.user self.now source.now }
         ensures asks { AsksFor R.reads self.now None files.old files.new }

@@ -6,12 +6,12 @@
 ghost use Rattle.std.specs.Prelude.{◌≡◌, Some, None, false};
 ghost use Rattle.handlebars_template.specs.TreeView.{tree_view};
 ghost use Rattle.handlebars_scope.specs.Contexts.{data_of};
-ghost use Rattle.handlebars_semantics.specs.Answer.{FromName, FromSource};
+ghost use Rattle.handlebars_semantics.specs.Answer.{FromName};
 ghost use Rattle.handlebars.specs.AnswerLaws.{ObeysLaws, ObeysLawsByName};
 ghost use Rattle.handlebars.specs.Calls.{BeginsWith};
-ghost use Rattle.handlebars.specs.Dev.{AsksFor, stored_under};
+ghost use Rattle.handlebars.specs.Dev.{AsksFor};
 ghost use Rattle.handlebars.specs.Files.{is_dev, overlaid_on, tree_in};
-ghost use Rattle.handlebars.specs.Over.{setting_under, setting_with};
+ghost use Rattle.handlebars.specs.Over.{ForName, ForSource, setting_under, setting_with};
 ghost use Rattle.handlebars.specs.PieceCalls.{EmitsPieces, EmitsReading, EmitsSource};
 ghost use Rattle.handlebars.specs.View.{options_of, stored_tree};
 
@@ -43,8 +43,7 @@ impl<E: UserParts> RegistryOf<E> {
         files: &mut R,
     ) -> Result<(), RenderError>
         ensures emits { EmitsReading R.reads self.now (Some name.now) files.old files.new
-            (λ read. EmitsPieces (setting_under E.registered E.user read self.now (data_of ctx.now))
-            (FromName (stored_under read self.now) name.now) O.may_give)
+            (λ read. ForName EmitsPieces E.registered E.user self.now name.now read (data_of ctx.now) O.may_give)
             (O.emitted out.old) (O.emitted out.new) result }
         ensures laws { ObeysLawsByName E.registered E.user self.now name.now }
         ensures asks { AsksFor R.reads self.now (Some name.now) files.old files.new }
@@ -90,8 +89,7 @@ impl<E: UserParts> RegistryOf<E> {
         files: &mut R,
     ) -> Result<(), RenderError>
         ensures emits { EmitsSource R.reads self.now (options_of self.now) source.now files.old files.new
-            (λ read. EmitsPieces (setting_under E.registered E.user read self.now (data_of ctx.now))
-            (FromSource (options_of self.now) source.now) O.may_give)
+            (λ read. ForSource EmitsPieces E.registered E.user self.now source.now read (data_of ctx.now) O.may_give)
             (O.emitted out.old) (O.emitted out.new) result }
         ensures laws { ObeysLaws E.registered E.user self.now source.now }
         ensures asks { AsksFor R.reads self.now None files.old files.new }
