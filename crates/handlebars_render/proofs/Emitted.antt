@@ -1,5 +1,5 @@
 -- What is emitted of pieces: texts joined.
-use Rattle.std.proofs.Common.{◌≡◌, Bool, true, false, List, [], ◌∷◌, ◌++◌, Some, refl, sym, ap, ◌∙◌, append_assoc, append-nil, Ok, Err, arith}
+use Rattle.std.proofs.Common.{◌≡◌, Bool, true, false, List, [], ◌∷◌, ◌++◌, Some, refl, sym, ap, ◌∙◌, append_assoc, append-nil, Ok, Err}
 use Rattle.std.specs.declared.io.Error.{Error}
 use Rattle.handlebars_base.specs.Bytes.{Text}
 use Rattle.handlebars_base.specs.Reasons.{out_of_memory}
@@ -8,6 +8,7 @@ use Rattle.handlebars_base.specs.declared.error.render_error.RenderError.{Render
 use Rattle.handlebars_semantics.specs.Runs.{plain_write_error}
 use Rattle.handlebars_semantics.specs.Emitted.{Emitted}
 use Rattle.handlebars_expand.specs.PiecesView.{ahead_emitted, texts}
+use Rattle.handlebars_expand.specs.Received.{IsAccepted, IsRejected, Received}
 use Rattle.handlebars_render.specs.View.{ReportsWriteError, ahead_text, holding, holding_ahead, emitted_if}
 use Rattle.handlebars_render.specs.ModeView.{piece_mode}
 use Rattle.handlebars_render.specs.Writes.{EmitsPiece, and_emitted, piece_lost, piece_failed, piece_emitted}
@@ -34,17 +35,19 @@ ahead_texts asks a is = ap (λ b. ahead_text b a) is
 
 module _ (may : Error → Type 0) (t : Emitted) (at_boolean_text : Bool) where
   -- to an output
-  pub piece_out : {O : Type 0} (emitted : O → List Emitted) (a b : O) {u : Unit {0}} → emitted b ≡ emitted a ++ t ∷ []
-      → EmitsPiece t at_boolean_text may (holding (piece_mode emitted may) a) (Ok u) (holding (piece_mode emitted may) b)
-  piece_out emitted a b is =
-      piece_emitted (record { text = ap texts is ∙ texts-emitted (emitted a) t; write_errors = refl }) (ap (λ zs. Some zs) is)
+  pub piece_out : {O : Type 0} (received : O → Received) (a b : O) {u : Unit {0}} → IsAccepted t (received a) (received b)
+      → EmitsPiece t at_boolean_text may (holding (piece_mode received may) a) (Ok u) (holding (piece_mode received may) b)
+  piece_out received a b is = piece_emitted (record {
+    text = ap texts is.emitted ∙ texts-emitted (received a).emitted t;
+    write_errors = is.write_errors;
+  }) (ap (λ zs. Some zs) is.emitted)
 
   -- which rejects it
-  pub piece_error : {O : Type 0} (emitted : O → List Emitted) (a b : O) {e : RenderError} (cause : Error) → emitted b ≡ emitted a
-      → may cause → ReportsWriteError cause (plain_write_error at_boolean_text) e
-      → EmitsPiece t at_boolean_text may (holding (piece_mode emitted may) a) (Err e) (holding (piece_mode emitted may) b)
-  piece_error emitted a b cause same given reports =
-      piece_failed cause given (ap texts same) (ap (λ zs. Some zs) same) (λ small. absurd (omega (arith, small))) reports
+  pub piece_error : {O : Type 0} (received : O → Received) (a b : O) {e : RenderError} (cause : Error)
+      → IsRejected (received a) (received b) → may cause → ReportsWriteError cause (plain_write_error at_boolean_text) e
+      → EmitsPiece t at_boolean_text may (holding (piece_mode received may) a) (Err e) (holding (piece_mode received may) b)
+  piece_error received a b cause is given reports =
+      piece_failed cause given (ap texts is.emitted) (ap (λ zs. Some zs) is.emitted) is.write_errors reports
 
   -- to what is rendered ahead
   pub piece_ahead : (asks : Bool) (a b : declared.Ahead) {u : Unit {0}} → asks ≡ true → ahead_emitted b ≡ ahead_emitted a ++ t ∷ []

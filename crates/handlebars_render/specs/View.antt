@@ -1,5 +1,5 @@
 -- What the code's values represent, and what its calls guarantee about a run.
-use Rattle.std.specs.Prelude.{◌≡◌, ◌≢◌, ℕ, Option, None, Some, ◌+◌, ◌-◌, ◌^◌, ◌<◌, List, ◌++◌, Result, Ok, Err, map, Bool, true, false}
+use Rattle.std.specs.Prelude.{◌≡◌, ◌≢◌, ℕ, Option, None, Some, ◌+◌, ◌^◌, ◌<◌, List, ◌++◌, Result, Ok, Err, map, Bool, true, false}
 use Rattle.std.specs.declared.io.Error.{Error}
 use Rattle.std.specs.declared.io.ErrorKind.{ErrorKind}
 use Rattle.std.specs.declared.io.ErrorKind.TheVariants.{OutOfMemory}
@@ -17,6 +17,7 @@ use Rattle.handlebars_semantics.specs.Steps.{Steps, Prog}
 use Rattle.handlebars_semantics.specs.Runs.{WriteError, Outcome, Ended, Failed, WriteFailed, NoMemory, Runs}
 use Rattle.handlebars_expand.specs.declared.context.RenderContext.{RenderContext}
 use Rattle.handlebars_expand.specs.PiecesView.{ahead_plain, ahead_emitted, texts}
+use Rattle.handlebars_expand.specs.Received.{Received}
 use Rattle.handlebars_expand.specs.View.{Within, outside, CapturedIn, AreCaptured, state_of, state_with}
 use Rattle.handlebars_render.specs.ModeView.{ModeView}
 use Rattle.handlebars_expand.specs.declared.ahead.Ahead as declared_ahead
@@ -37,9 +38,9 @@ pub record Holding : Type 0 where
 abbrev pub text_only : Held → Holding
 text_only h = record { text = h.text; write_errors = h.write_errors; emitted = None }
 
--- the holding of an output that receives each piece, and counts no errors
-abbrev pub holding_of_pieces : List Emitted → Holding
-holding_of_pieces ts = record { text = texts ts; write_errors = 2 ^ 64 - 1; emitted = Some ts }
+-- the holding of an output that receives each piece
+abbrev pub holding_of_pieces : Received → Holding
+holding_of_pieces r = record { text = texts r.emitted; write_errors = r.write_errors; emitted = Some r.emitted }
 
 -- the state of a run and what its output holds, at one moment
 pub record Moment : Type 0 where

@@ -102,8 +102,8 @@ pub fn render_pieces_into<'a, O: PieceOutput, P: Registered>(
     requires nodes { HasNodes environment.now rc.old }
     ensures renders { (at : TreeOccurrence) → KnowsAround true environment.now at → (captured : CapturedIn (within environment.now))
         → Captures true captured → RefinesProg (setting_in P.parts environment.now)
-        (perform (Whole at (tree_view template.now))) O.may_give (moment captured rc.old (holding_of_pieces (O.emitted out.old)))
-        (answer_of result) (moment captured rc.new (holding_of_pieces (O.emitted out.new))) }
+        (perform (Whole at (tree_view template.now))) O.may_give (moment captured rc.old (holding_of_pieces (O.received out.old)))
+        (answer_of result) (moment captured rc.new (holding_of_pieces (O.received out.new))) }
     ensures unchanged { IsUnchanged rc.old rc.new }
 {
     let mut sink: Sink<'_, O, EachPiece> = Sink::Out(out, PhantomData);

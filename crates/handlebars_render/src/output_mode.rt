@@ -62,7 +62,7 @@ pub trait OutputMode<O> {
             false mode.may_give (holding mode out.old) (answer_of result) (holding mode out.new) };
 
     /// Emits a piece: the text of a boolean helper, or another piece. A piece that is rejected is not emitted, and writes
-    /// nothing.
+    /// nothing; its error is counted.
     fn emit(
         alloc: Global,
         at_boolean_text: bool,
@@ -144,7 +144,7 @@ impl<O: Output> OutputMode<O> for TextOnly {
 pub struct EachPiece {}
 
 impl<O: PieceOutput> OutputMode<O> for EachPiece {
-    ghost mode = { piece_mode O.emitted O.may_give };
+    ghost mode = { piece_mode O.received O.may_give };
 
     #[inline(always)]
     fn asks() -> bool {
