@@ -31,7 +31,7 @@ pub(crate) fn emit_template<E: UserParts, L: Log, O: PieceOutput>(
     out: &mut O,
 ) -> Result<(), RenderError>
     ensures { EmitsPieces (setting_with E.registered E.user (tree_in read.now) registry.now (data_of ctx.now))
-        (BeginsWith (tree_view template.now)) O.may_give (O.emitted out.old) (O.emitted out.new) result }
+        (BeginsWith (tree_view template.now)) O.may_give (O.received out.old) (O.received out.new) result }
 {
     registry.entries.satisfies_law();
     let mut rc = registry.first_context(template.name.as_ref())?;

@@ -44,7 +44,7 @@ impl<E: UserParts> RegistryOf<E> {
     ) -> Result<(), RenderError>
         ensures emits { EmitsReading R.reads self.now (Some name.now) files.old files.new
             (λ read. ForName EmitsPieces E.registered E.user self.now name.now read (data_of ctx.now) O.may_give)
-            (O.emitted out.old) (O.emitted out.new) result }
+            (O.received out.old) (O.received out.new) result }
         ensures laws { ObeysLawsByName E.registered E.user self.now name.now }
         ensures asks { AsksFor R.reads self.now (Some name.now) files.old files.new }
         ensures unread { is_dev self.now ≡ false → files.new ≡ files.old }
@@ -67,7 +67,7 @@ impl<E: UserParts> RegistryOf<E> {
     ) -> Result<(), RenderError>
         ensures { EmitsPieces (setting_with E.registered E.user (tree_in read.now) self.now (data_of ctx.now))
             (FromName (overlaid_on (tree_in read.now) (stored_tree self.now)) name.now) O.may_give
-            (O.emitted out.old) (O.emitted out.new) result }
+            (O.received out.old) (O.received out.new) result }
     {
         match self.template_named(name, read) {
             Ok(template) => emit_template(self, template, read, ctx, log, out),
@@ -90,7 +90,7 @@ impl<E: UserParts> RegistryOf<E> {
     ) -> Result<(), RenderError>
         ensures emits { EmitsSource R.reads self.now (options_of self.now) source.now files.old files.new
             (λ read. ForSource EmitsPieces E.registered E.user self.now source.now read (data_of ctx.now) O.may_give)
-            (O.emitted out.old) (O.emitted out.new) result }
+            (O.received out.old) (O.received out.new) result }
         ensures laws { ObeysLaws E.registered E.user self.now source.now }
         ensures asks { AsksFor R.reads self.now None files.old files.new }
         ensures unread { is_dev self.now ≡ false → files.new ≡ files.old }
@@ -114,7 +114,7 @@ impl<E: UserParts> RegistryOf<E> {
         ensures emits { EmitsReading R.reads self.now None files.old files.new
             (λ read. EmitsPieces (setting_under E.registered E.user read self.now (data_of ctx.now))
             (BeginsWith (tree_view template.now)) O.may_give)
-            (O.emitted out.old) (O.emitted out.new) result }
+            (O.received out.old) (O.received out.new) result }
         ensures asks { AsksFor R.reads self.now None files.old files.new }
         ensures unread { is_dev self.now ≡ false → files.new ≡ files.old }
     {
