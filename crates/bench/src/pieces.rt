@@ -26,7 +26,7 @@ impl Texts {
 }
 
 impl PieceOutput for Texts {
-    ghost emitted = { λ o. o.trace.emitted };
+    ghost received = { λ o. o.trace.received };
 
     fn piece(&mut self, text: &str, origin: &Origin<'_>) -> Result<(), io::Error> {
         match self.text.push_str(text) {
@@ -34,7 +34,10 @@ impl PieceOutput for Texts {
                 self.trace = self.trace.and(text.as_bytes(), origin);
                 Ok(())
             }
-            Err(cause) => Err(cause.into()),
+            Err(cause) => {
+                self.trace = self.trace.and_error();
+                Err(cause.into())
+            }
         }
     }
 }

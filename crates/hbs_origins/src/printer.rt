@@ -2,6 +2,7 @@
 
 ghost use Rattle.std.specs.Prelude.{◌≡◌, ◌≢◌, [], ◌++◌, OnOk};
 ghost use Rattle.handlebars_expand.specs.PiecesView.{emitted_seen};
+ghost use Rattle.handlebars_expand.specs.Received.{nothing_received};
 ghost use Rattle.hbs_origins.specs.Printed.{PrintsAfter, printed_as};
 
 use crate::line::add_line;
@@ -30,7 +31,7 @@ pub struct Printer<'p, W> {
 impl<'p, W: Write> Printer<'p, W> {
     /// Creates a printer that has printed nothing yet. Allocates no memory.
     pub fn new(alloc: Global, form: Form, template: &'p str, out: &'p mut W) -> Printer<'p, W>
-        ensures emitted { result.trace.emitted ≡ [] }
+        ensures received { result.trace.received ≡ nothing_received }
         ensures form { result.form ≡ form }
         ensures argument { result.template.now ≡ template.now }
         ensures gathered { result.gathered.items ≡ [] }
@@ -79,7 +80,7 @@ impl<'p, W: Write> Printer<'p, W> {
     }
 
     fn add(&mut self, text: &str, origin: &Origin<'_>) -> io::Result<()>
-        ensures emitted { self.new.trace ≡ self.old.trace }
+        ensures trace { self.new.trace ≡ self.old.trace }
         ensures prints { OnOk result (self.old.form ≢ Form.Page
             → PrintsAfter (W.contents self.old.out.now) self.old.gathered.items
             (printed_as self.old.form self.old.template.now (emitted_seen text.now origin.now))
@@ -94,7 +95,7 @@ impl<'p, W: Write> Printer<'p, W> {
 
     // Bytes that can't be written are dropped, so that no part of them is written twice.
     fn pour(&mut self) -> io::Result<()>
-        ensures emitted { self.new.trace ≡ self.old.trace }
+        ensures trace { self.new.trace ≡ self.old.trace }
         ensures prints { OnOk result (PrintsAfter (W.contents self.old.out.now) self.old.gathered.items []
             (W.contents self.new.out.now) self.new.gathered.items) }
         ensures none { self.new.gathered.items ≡ [] }
@@ -129,11 +130,18 @@ fn gather(
 }
 
 impl<W: Write> PieceOutput for Printer<'_, W> {
-    ghost emitted = { λ o. o.trace.emitted };
+    ghost received = { λ o. o.trace.received };
 
     fn piece(&mut self, text: &str, origin: &Origin<'_>) -> Result<(), io::Error> {
-        self.add(text, origin)?;
-        self.trace = self.trace.and(text.as_bytes(), origin);
-        Ok(())
+        match self.add(text, origin) {
+            Ok(()) => {
+                self.trace = self.trace.and(text.as_bytes(), origin);
+                Ok(())
+            }
+            Err(cause) => {
+                self.trace = self.trace.and_error();
+                Err(cause)
+            }
+        }
     }
 }

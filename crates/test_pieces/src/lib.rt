@@ -1,6 +1,8 @@
 //! A user-defined output that stores the pieces that it is given, each with its origin, for tests.
 #![tactic(auto)]
 
+ghost use Rattle.std.specs.Prelude.{◌≡◌};
+
 use handlebars_expand::pieces::{Origin, PieceKind, PieceOutput, TemplateReference};
 use handlebars_expand::trace::Trace;
 use handlebars_scope::context::full_path::FullPath;
@@ -134,19 +136,34 @@ impl HeldPieces {
         }
         Ok(text)
     }
-}
 
-impl PieceOutput for HeldPieces {
-    ghost emitted = { λ o. o.trace.emitted };
-
-    fn piece(&mut self, text: &str, origin: &Origin<'_>) -> Result<(), io::Error> {
+    // Stores a piece, if the capacity and the memory suffice.
+    fn store(&mut self, text: &str, origin: &Origin<'_>) -> Result<(), io::Error>
+        ensures { self.new.trace ≡ self.old.trace }
+    {
         if self.pieces.len() >= self.capacity {
             self.failed = self.failed.saturating_add(1);
             return Err(io::Error::from(self.write_error));
         }
         let piece = HeldPiece::of(self.alloc, text, origin)?;
         self.pieces.push(piece)?;
-        self.trace = self.trace.and(text.as_bytes(), origin);
         Ok(())
+    }
+}
+
+impl PieceOutput for HeldPieces {
+    ghost received = { λ o. o.trace.received };
+
+    fn piece(&mut self, text: &str, origin: &Origin<'_>) -> Result<(), io::Error> {
+        match self.store(text, origin) {
+            Ok(()) => {
+                self.trace = self.trace.and(text.as_bytes(), origin);
+                Ok(())
+            }
+            Err(cause) => {
+                self.trace = self.trace.and_error();
+                Err(cause)
+            }
+        }
     }
 }

@@ -1,5 +1,7 @@
 //! An output that stores the pieces that it is given.
 
+ghost use Rattle.std.specs.Prelude.{◌≡◌};
+
 use handlebars::{FullPath, Origin, PieceKind, PieceOutput, TemplateReference, Trace};
 use std::alloc::{AllocError, Global};
 use std::io;
@@ -27,16 +29,30 @@ impl Collector {
     pub fn into_pieces(self) -> Vec<Piece> {
         self.pieces
     }
+
+    // Stores a piece.
+    fn store(&mut self, text: &str, origin: &Origin<'_>) -> Result<(), AllocError>
+        ensures { self.new.trace ≡ self.old.trace }
+    {
+        let piece = collected(self.alloc, text, origin)?;
+        self.pieces.push(piece)
+    }
 }
 
 impl PieceOutput for Collector {
-    ghost emitted = { λ o. o.trace.emitted };
+    ghost received = { λ o. o.trace.received };
 
     fn piece(&mut self, text: &str, origin: &Origin<'_>) -> Result<(), io::Error> {
-        let piece = collected(self.alloc, text, origin)?;
-        self.pieces.push(piece)?;
-        self.trace = self.trace.and(text.as_bytes(), origin);
-        Ok(())
+        match self.store(text, origin) {
+            Ok(()) => {
+                self.trace = self.trace.and(text.as_bytes(), origin);
+                Ok(())
+            }
+            Err(cause) => {
+                self.trace = self.trace.and_error();
+                Err(cause.into())
+            }
+        }
     }
 }
 
