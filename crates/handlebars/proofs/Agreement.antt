@@ -12,7 +12,7 @@ use Rattle.handlebars_semantics.specs.Pieces.{Piece, join}
 use Rattle.handlebars_semantics.specs.Runs.{Outcome, Ended, Failed, WriteFailed, NoMemory, IsStop}
 use Rattle.handlebars_semantics.specs.State.{Setting}
 use Rattle.handlebars_render.specs.View.{Answered}
-use Rattle.handlebars.specs.Calls.{CallResult, returned, wrote, Gave, call_error, IsSameResult, ComesOfAnswer, CallsAgree, IsUnbroken, Writes, all_written, failed_after, writer_failed, memory_failed}
+use Rattle.handlebars.specs.Calls.{CallResult, returned, wrote, Gave, call_error, IsSameResult, ComesOfAnswer, CallsAgree, EndsUnbroken, IsUnbroken, Writes, all_written, failed_after, writer_failed, memory_failed}
 
 same_text-merely : {A : Type 0} (x y : Text) → ∥ A ∥₁ → (A → x ≡ y) → x ≡ y
 same_text-merely x y truncated same =
@@ -24,6 +24,10 @@ error_in (Ended s) = None
 error_in (Failed r) = Some r
 error_in (WriteFailed f) = None
 error_in NoMemory = None
+
+abbrev HasEnded : Answered → Type 0
+HasEnded (Ok u) = Unit {0}
+HasEnded (Err e) = ⊥
 
 module _ (p : Setting) (begins : Beginning → Type 0) where
   -- the answer of which a call comes
@@ -64,3 +68,13 @@ module _ (p : Setting) (begins : Beginning → Type 0) where
 
   pub calls_agree : HasOneAnswer p begins → CallsAgree p begins
   calls_agree one a b g h = same_calls one a b (answer_of a g) (answer_of b h)
+
+  ended-unbroken : (before after : Option Text) (r : Answered) (w : Writes p begins before after r) → HasEnded r
+      → IsUnbroken p begins w
+  ended-unbroken before after _ (all_written a w) h = tt
+  ended-unbroken before after _ (failed_after a w) h = tt
+  ended-unbroken before after _ (writer_failed cause f a reports is w) h = h
+  ended-unbroken before after _ (memory_failed t memory is w) h = h
+
+  pub ends_unbroken : EndsUnbroken p begins
+  ends_unbroken before after u w = ended-unbroken before after (Ok u) w tt

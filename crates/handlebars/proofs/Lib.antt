@@ -30,3 +30,4 @@ mod MarkupFaults
 mod MarkupNames
 mod MarkupOrder
 mod MarkupRead
+mod MetPremises

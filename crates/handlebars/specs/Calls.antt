@@ -101,6 +101,10 @@ module _ (p : Setting) (begins : Beginning → Type 0) where
   abbrev pub CallsAgree : Type 0
   CallsAgree = (a b : CallResult) → ComesOfAnswer a → ComesOfAnswer b → IsSameResult a b
 
+  -- If a call to a writer ends well, neither the writer failed, nor did memory run out.
+  abbrev pub EndsUnbroken : Type 0
+  EndsUnbroken = (before after : Option Text) (u : Unit {0}) (w : Writes p begins before after (Ok u)) → IsUnbroken p begins w
+
 -- ---- calls with an output that read files first
 
 module _ {S : Type 0} (reads : S → Text → Result (String Global) Error → S → Type 0) {E : Type 0} (r : RegistryOf E)

@@ -12,9 +12,9 @@ ghost use Rattle.handlebars_semantics.specs.Laws.{OneRun, StopsInBeginning, Come
 ghost use Rattle.handlebars_semantics.specs.Laws.{ElementHasOrigins, LeavesAround, OnlyNamedCount, SameUnderLarger};
 ghost use Rattle.handlebars_semantics.specs.Laws.{SameWithSections};
 ghost use Rattle.handlebars_semantics.specs.Marked.{DataIsNoMarkup, IndentsAreBlank};
-ghost use Rattle.handlebars.specs.Calls.{CallsAgree};
+ghost use Rattle.handlebars.specs.Calls.{CallsAgree, EndsUnbroken};
 ghost use Rattle.handlebars.specs.Dev.{ReadsFiles, ReadsFor, stored_under};
-ghost use Rattle.handlebars.specs.Files.{IsByName, Loaded, Stop, files_of, is_dev, path_under, remembered_path};
+ghost use Rattle.handlebars.specs.Files.{HasLoaded, IsByName, Loaded, Stop, files_of, is_dev, path_under, remembered_path};
 ghost use Rattle.handlebars.specs.Folder.{FileFilter, Walkable, Walks};
 ghost use Rattle.handlebars.specs.Markup.{AreReportedOnce, NoSource};
 ghost use Rattle.handlebars.specs.Over.{ForName, ForSource, HoldsRead, SameAnswers, setting_under};
@@ -22,7 +22,7 @@ ghost use Rattle.handlebars.specs.Readers.{GivesOneAnswer, HasOneEnd, IsSameList
 ghost use Rattle.handlebars.specs.View.{options_of, setting_of, setting_over, stored_tree};
 
 use crate::registry::RegistryOf;
-use crate::sources::TemplateReader;
+use crate::sources::{NoFiles, TemplateReader};
 pub use handlebars_base::laws::{
     equality_laws, escape_laws, one_meaning, order_laws, path_prefixes,
 };
@@ -66,18 +66,24 @@ pub fn laws_of_runs<E: UserParts>(registry: &RegistryOf<E>, context: &Context)
 
 /// The calls that render agree, by one name or by one source, over a context or over data whose conversion gives its
 /// value, whether they return a text or write to a writer. If two calls read the same trees, no writer fails and memory
-/// doesn't run out, they return or write the same text, or fail with the same error.
+/// doesn't run out, they return or write the same text, or fail with the same error. If a call to a writer ends well,
+/// neither did so.
 pub fn calls_agree<E: UserParts>(registry: &RegistryOf<E>)
     ensures names { (name : Text) (d : Data) (read : List Loaded)
         → ForName CallsAgree E.registered E.user registry.now name read d }
     ensures sources { (source : Text) (d : Data) (read : List Loaded)
         → ForSource CallsAgree E.registered E.user registry.now source read d }
+    ensures ended_by_name { (name : Text) (d : Data) (read : List Loaded)
+        → ForName EndsUnbroken E.registered E.user registry.now name read d }
+    ensures ended_by_source { (source : Text) (d : Data) (read : List Loaded)
+        → ForSource EndsUnbroken E.registered E.user registry.now source read d }
 {
     registry.entries.satisfies_law();
 }
 
 /// If every file was read and compiled in dev mode, the answers are those of a registry without it that holds the trees
-/// which were read and is otherwise the same: the same pieces, and the same outcome.
+/// which were read and is otherwise the same: the same pieces, and the same outcome. So is the registry after the
+/// registration of the files.
 pub fn dev_mode_law<E: UserParts>()
     ensures names { (dev plain : RegistryOf E) (read : List Loaded) (d : Data) → HoldsRead read dev plain
         → (name : Text)
@@ -87,6 +93,8 @@ pub fn dev_mode_law<E: UserParts>()
         → (source : Text)
         → SameAnswers (setting_under E.registered E.user read dev d) (FromSource (options_of dev) source)
         (setting_over E.registered E.user plain d) (FromSource (options_of plain) source) }
+    ensures loaded { (dev plain : RegistryOf E) (read : List Loaded) → HasLoaded read dev plain
+        → HoldsRead read dev plain }
 {}
 
 /// Data becomes markup only where a template asks for it, if the default escape is in force, and if all trees under
@@ -135,12 +143,15 @@ pub fn without_dev_mode<E: UserParts, R: TemplateReader>()
 
 /// If a reader gives one answer from a state at a path, there is one outcome of reading files in order, and one of
 /// walking a folder, apart from out of memory: the same trees, the same end, and the same state of the reader.
+/// `NoFiles` is such a reader.
 pub fn one_reading<R: TemplateReader>()
     ensures files { GivesOneAnswer IsSameRead R.reads → (prevent_indent : Bool) (paths : List (Text × Text)) (before : R)
         → HasOneEnd (ReadsFiles R.reads prevent_indent paths before) }
     ensures folder { GivesOneAnswer IsSameRead R.reads → GivesOneAnswer IsSameList R.lists → (prevent_indent : Bool)
         (choice : FileFilter) (task : Walkable) (before : R)
         → HasOneEnd (Walks R.reads R.lists prevent_indent choice task before) }
+    ensures no_files { GivesOneAnswer IsSameRead ⟦<NoFiles as TemplateReader>⟧.reads }
+    ensures no_folders { GivesOneAnswer IsSameList ⟦<NoFiles as TemplateReader>⟧.lists }
 {}
 
 /// A number outside the range counts as null wherever it is: neither the text of a value, nor its truth, nor its

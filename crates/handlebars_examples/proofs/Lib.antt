@@ -16,3 +16,4 @@ mod CapturedExamples
 mod InclusionSources
 mod PieceExamples
 mod MarkupExamples
+mod LawExamples

@@ -24,7 +24,7 @@ calls_blind-first : (r : Registrations) → IsFirst r → (n : Text)
     → calls_blind r n ≡ with_or (first_callee n) is_blind_callee true
 calls_blind-first r h n = ap (λ o. with_or o is_blind_callee true) (h.helpers n)
 
-hooks-first : (r : Registrations) → IsFirst r → (block : Bool) → calls_blind r (hook block) ≡ true
+pub hooks-first : (r : Registrations) → IsFirst r → (block : Bool) → calls_blind r (hook block) ≡ true
 hooks-first r h true = calls_blind-first r h (hook true)
 hooks-first r h false = calls_blind-first r h (hook false)
 

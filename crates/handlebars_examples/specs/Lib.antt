@@ -11,3 +11,4 @@ pub mod CapturedExamples
 pub mod InclusionSources
 pub mod PieceExamples
 pub mod MarkupExamples
+pub mod LawExamples

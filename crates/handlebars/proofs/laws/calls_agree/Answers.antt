@@ -15,3 +15,9 @@ returns-clause-sources g c = λ source d read.
     let over = setting_under g.E.UserParts.registered g.E.UserParts.user read c.args.registry.now d in
     agreement.calls_agree over _ (has_one_answer over
     (over-lawful g.E.UserParts.registered g.E.UserParts.user c.args.registry.now d read c.satisfies_law.ensures) _ (FromSource-one _ source))
+
+pub returns-clause-ended_by_name : goal.returns-clause-ended_by_name
+returns-clause-ended_by_name g c = λ name d read. agreement.ends_unbroken _ _
+
+pub returns-clause-ended_by_source : goal.returns-clause-ended_by_source
+returns-clause-ended_by_source g c = λ source d read. agreement.ends_unbroken _ _
