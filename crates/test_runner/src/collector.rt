@@ -35,7 +35,8 @@ impl Collector {
         ensures { self.new.trace ≡ self.old.trace }
     {
         let piece = collected(self.alloc, text, origin)?;
-        self.pieces.push(piece)
+        self.pieces.push(piece)?;
+        Ok(())
     }
 }
 
