@@ -1,0 +1,10 @@
+pub mod Frames
+pub mod Nodes
+pub mod Layers
+pub mod Hash
+pub mod Layering
+pub mod Names
+pub mod ScopeFrames
+pub mod Depths
+pub mod Nearest
+pub mod Settings

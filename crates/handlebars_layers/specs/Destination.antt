@@ -1,0 +1,78 @@
+-- What the code finds, as a value with its origin.
+use Rattle.std.specs.Prelude.{◌≡◌, ◌++◌, List, Option, option_map, Result, Ok, Err}
+use denote.Ref.{Bor}
+use Rattle.serde_json.specs.Data.{Data, boolean, number, unsigned, string}
+use Rattle.serde_json.specs.View.{view}
+use Rattle.handlebars_base.specs.Answers.{Answer, gives, fails_for}
+use Rattle.handlebars_base.specs.Bytes.{Text}
+use Rattle.handlebars_base.specs.Reasons.{invalid_json_index}
+use Rattle.handlebars_base.specs.Scoped.{Found, walked, value, missing}
+use Rattle.handlebars_base.specs.PathView.{segments_of}
+use Rattle.serde_json.specs.declared.value.Value as json
+use Rattle.handlebars_scope.specs.Resolve.{Resolution, along, in_block_value, names_of, value_at}
+use Rattle.handlebars_scope.specs.ResolutionView.{names_in}
+use Rattle.handlebars_scope.specs.Scopes as scopes
+use Rattle.handlebars_scope.specs.Scopes.{Frame}
+use Rattle.handlebars_layers.specs.Chain.{IsValue, frames_from, names_at}
+use Rattle.handlebars_layers.specs.LayerView.{descent_names, chain_of}
+use Rattle.handlebars_layers.specs.declared.scopes.Scopes as code
+use Rattle.handlebars_layers.specs.declared.resolution.Resolution as code_resolution
+use Rattle.handlebars_layers.specs.declared.resolution.Resolution.TheVariants as resolution
+use Rattle.handlebars_layers.specs.declared.destination.Bound.{Bound}
+use Rattle.handlebars_layers.specs.declared.destination.Bound.TheVariants as bound
+use Rattle.handlebars_layers.specs.declared.destination.FrameValue.{FrameValue}
+use Rattle.handlebars_layers.specs.declared.destination.FrameValue.TheVariants.{Json, Index, Truth, Key}
+use Rattle.handlebars_layers.specs.declared.destination.Route.{Route}
+use Rattle.handlebars_layers.specs.declared.destination.Destination.{Destination}
+use Rattle.handlebars_layers.specs.declared.destination.Destination.TheVariants.{Node, Value, Nothing, NoIndex}
+
+-- the frames, nearest first
+abbrev pub frames_in : code.Scopes → List Frame
+frames_in s = frames_from (chain_of s.nearest.now) s.skipped
+
+abbrev pub given_in : code.Scopes → Data
+given_in s = view s.given.now
+
+-- the names of a route, from the data
+abbrev pub route_names : Route → List Text
+route_names r = names_at (frames_in r.start) ++ descent_names r.descent
+
+abbrev pub value_data : FrameValue → Data
+value_data (Json v) = view v.now
+value_data (Index i) = number (unsigned i)
+value_data (Truth b) = boolean b
+value_data (Key k) = string k.now
+
+abbrev pub bound_view : Bound → scopes.Bound
+bound_view (bound.Path names) = scopes.bound_path (names_in names.now)
+bound_view (bound.Value v) = scopes.bound_value (value_data v)
+
+abbrev pub destination_of : Destination → Answer Found
+destination_of (Node node r) = gives (walked (view node.now) (route_names r))
+destination_of (Value v) = gives (value (value_data v))
+destination_of Nothing = gives missing
+destination_of (NoIndex name) = fails_for (invalid_json_index name.now)
+
+-- A value of the data is what the names of its route lead to.
+abbrev pub IsRouted : Destination → Data → Type 0
+IsRouted (Node node r) d = IsValue (value_at d (route_names r)) (view node.now)
+IsRouted (Value v) d = Unit {0}
+IsRouted Nothing d = Unit {0}
+IsRouted (NoIndex name) d = Unit {0}
+
+-- ---- resolutions
+
+abbrev pub layer_resolution : code_resolution.Resolution → Resolution
+layer_resolution (resolution.Within v rest) = in_block_value (value_data v) (names_of (segments_of rest.now))
+layer_resolution (resolution.Along start bound rest) =
+    along (names_at (frames_in start) ++ (names_in bound.now ++ names_of (segments_of rest.now)))
+
+-- A resolution from a frame is one in these data.
+abbrev pub IsInData : code_resolution.Resolution → Bor json.Value → Type 0
+IsInData (resolution.Within v rest) given = Unit {0}
+IsInData (resolution.Along start bound rest) given = start.given ≡ given
+
+-- what names lead to within a value, or an error for a name that isn't an index
+abbrev pub within_of : Result (Option FrameValue) (Bor Text) → Answer (Option Data)
+within_of (Ok found) = gives (option_map value_data found)
+within_of (Err name) = fails_for (invalid_json_index name.now)

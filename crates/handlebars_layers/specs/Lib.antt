@@ -1,0 +1,11 @@
+pub mod DataSet
+pub mod Chain
+pub mod Frames
+pub mod LayerView
+pub mod Destination
+pub mod Layering
+pub mod NearestPartial
+pub mod RisingDepths
+pub mod PartialsByDepth
+pub mod PartialsView
+pub mod ScopeFrames

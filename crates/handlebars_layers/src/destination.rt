@@ -1,0 +1,41 @@
+//! What a path leads to. Neither its full path nor the JSON of a variable is made.
+
+use crate::layer::Descent;
+use crate::scopes::Scopes;
+use handlebars_base::json::value::Json;
+
+/// What a path leads to.
+#[derive(Clone, Copy)]
+pub enum Destination<'r, 'a> {
+    /// A value of the data, and the route to it.
+    Node(&'a Json, Route<'r, 'a>),
+    /// A value of a frame, which has no path.
+    Value(FrameValue<'r>),
+    /// No value.
+    Nothing,
+    /// This name isn't an index, and it was looked up in an array.
+    NoIndex(&'r str),
+}
+
+/// Where a value of the data is: the names that lead to it from a frame.
+#[derive(Clone, Copy)]
+pub struct Route<'r, 'a> {
+    pub start: Scopes<'r, 'a>,
+    pub descent: Descent<'r>,
+}
+
+/// A value that a frame has: JSON, or a variable of an iteration, of which there is no JSON.
+#[derive(Clone, Copy)]
+pub enum FrameValue<'r> {
+    Json(&'r Json),
+    Index(usize),
+    Truth(bool),
+    Key(&'r str),
+}
+
+/// What a frame binds a name to: a path below its own base path, or a value.
+#[derive(Clone, Copy)]
+pub enum Bound<'r> {
+    Path(&'r [String]),
+    Value(FrameValue<'r>),
+}
