@@ -1,6 +1,6 @@
 -- Setting a partial in the frame at a depth, once the entries of deeper frames are dropped: in the last entry, if it is of
 -- that frame, and otherwise in an entry after it.
-use Rattle.std.proofs.Common.{◌≡◌, ◌≢◌, ◌<◌, ℕ, suc, ◌-◌, arith, Bool, true, false, if◌then◌else◌, get_or, slice_set, length, take, List, [], ◌∷◌, ◌++◌, sym, ap, ◌∙◌, subst}
+use Rattle.std.proofs.Common.{◌≡◌, ◌≢◌, ◌<◌, ℕ, suc, ◌-◌, arith, Bool, true, false, if◌then◌else◌, get_or, slice_set, length, take, List, [], ◌∷◌, ◌++◌, Result, Ok, Err, OnErr, sym, ap, ◌∙◌, subst}
 use Rattle.handlebars_base.specs.Bytes.{Text}
 use Rattle.handlebars_template.specs.Tree.{Tree}
 use Rattle.handlebars_scope.specs.Scopes.{nothing_at, put_at}
@@ -12,6 +12,11 @@ use Rattle.handlebars_layers.proofs.Depths.{AllBefore, before-kept, before-other
 -- The entries are these, and none of them is of a frame at this depth or a deeper one.
 abbrev pub EndsBefore : ℕ → List OfFrame → List OfFrame → Type 0
 EndsBefore depth es others = (others ≡ es) × AllBefore depth es
+
+-- what holds whatever is returned
+pub on-err : {T E P : Type 0} (r : Result T E) → P → OnErr r P
+on-err (Ok x) p = tt
+on-err (Err e) p = p
 
 all-before : (es : List OfFrame) (k : ℕ) → length es ≡ 0 → AllBefore k es
 all-before [] k none = tt
@@ -26,6 +31,19 @@ module _ (old es : List OfFrame) (depth : ℕ) (kept : es ≡ kept_to depth old)
 
   same-at : (d : ℕ) → d < suc depth → partials_at es d ≡ partials_at old d
   same-at d near = ap (λ (fs : List OfFrame). partials_at fs d) kept ∙ keeps old depth d rising (omega arith)
+
+  -- ---- nothing is set
+
+  module _ (new : List OfFrame) (is : new ≡ es) where
+    pub outer-kept : (d : ℕ) → d < depth → partials_at new d ≡ partials_at old d
+    outer-kept d outer = ap (λ (fs : List OfFrame). partials_at fs d) is ∙ same-at d (omega arith)
+
+    pub own-kept : partials_at new depth ≡ partials_at old depth
+    own-kept = ap (λ (fs : List OfFrame). partials_at fs depth) is ∙ same-at depth (omega arith)
+
+    pub deeper-dropped : (d : ℕ) → depth < d → partials_at new d ≡ nothing_at
+    deeper-dropped d deep =
+        ap (λ (fs : List OfFrame). partials_at fs d) is ∙ none-from es (suc depth) d before-next (omega arith)
 
   -- ---- an entry after all others
 
@@ -83,15 +101,22 @@ module _ (old es : List OfFrame) (depth : ℕ) (kept : es ≡ kept_to depth old)
         ∙ sym (ap (λ (fs : List OfFrame). partials_at fs d) split ∙ other-at (take (n - 1) es) last d (λ e. omega arith))
         ∙ same-at d (omega arith)
 
-    pub own-changed : last.depth ≡ depth → (name : Text) (t : Tree) → partials_in own ≡ put_at name t (partials_in last)
-        → partials_at (slice_set es (n - 1) own) depth ≡ put_at name t (partials_at old depth)
-    own-changed here name t put =
-        let before : partials_in last ≡ partials_at old depth =
-        sym (split-at es _ last split rises-left) ∙ ap (partials_at es) here ∙ same-at depth (omega arith) in
+    at-changed : last.depth ≡ depth → partials_at (slice_set es (n - 1) own) depth ≡ partials_in own
+    at-changed here =
         ap (λ (fs : List OfFrame). partials_at fs depth) (last-set es n own count some)
         ∙ ap (partials_at (take (n - 1) es ++ own ∷ [])) (sym (same ∙ here))
         ∙ last-at (take (n - 1) es) own before-changed
-        ∙ put ∙ ap (put_at name t) before
+
+    at-last : last.depth ≡ depth → partials_in last ≡ partials_at old depth
+    at-last here = sym (split-at es _ last split rises-left) ∙ ap (partials_at es) here ∙ same-at depth (omega arith)
+
+    pub own-changed : last.depth ≡ depth → (name : Text) (t : Tree) → partials_in own ≡ put_at name t (partials_in last)
+        → partials_at (slice_set es (n - 1) own) depth ≡ put_at name t (partials_at old depth)
+    own-changed here name t put = at-changed here ∙ put ∙ ap (put_at name t) (at-last here)
+
+    pub own-unchanged : last.depth ≡ depth → partials_in own ≡ partials_in last
+        → partials_at (slice_set es (n - 1) own) depth ≡ partials_at old depth
+    own-unchanged here unchanged = at-changed here ∙ unchanged ∙ at-last here
 
     pub deeper-changed : last.depth ≡ depth → (d : ℕ) → depth < d → partials_at (slice_set es (n - 1) own) d ≡ nothing_at
     deeper-changed here d deep =

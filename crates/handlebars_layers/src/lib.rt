@@ -1,5 +1,5 @@
-//! Scope frames as a list on the stack, nearest first, and what paths lead to in them, without recursive lookup. Names of paths and JSON of variables
-//! are made only where they are asked for.
+//! Scope frames as a list on the stack, nearest first, and what paths lead to in them, without recursive lookup. Names of paths
+//! and JSON of variables are made only where they are asked for.
 #![tactic(auto)]
 
 pub mod destination;

@@ -1,6 +1,6 @@
 //! Partials that decorators set in scope frames, by the depth of each frame, which is the number of layers around it.
 
-ghost use Rattle.std.specs.Prelude.{◌≡◌, ◌<◌, ◌≤◌, ℕ, OnOk, option_map, string_bytes, take};
+ghost use Rattle.std.specs.Prelude.{◌≡◌, ◌<◌, ◌≤◌, ℕ, OnErr, OnOk, option_map, string_bytes, take};
 ghost use Rattle.handlebars_template.specs.TreeView.{tree_view};
 ghost use Rattle.handlebars_scope.specs.Scopes.{nothing_at, put_at};
 ghost use Rattle.handlebars_layers.specs.PartialsByDepth.{kept_to, partials_in};
@@ -42,6 +42,7 @@ impl OfFrame {
         ensures depth { self.new.depth ≡ self.old.depth }
         ensures partials { OnOk result (partials_in self.new
             ≡ put_at (string_bytes name) (tree_view template.value) (partials_in self.old)) }
+        ensures err { OnErr result (partials_in self.new ≡ partials_in self.old) }
     {
         self.by_name.insert(name, template)?;
         Ok(())
@@ -83,17 +84,18 @@ impl Partials {
     ///
     /// # Errors
     ///
-    /// Fails if memory runs out.
+    /// Fails if memory runs out. The partials of deeper frames are dropped all the same, and all others are as before.
     pub fn set(
         &mut self,
         depth: usize,
         name: &str,
         template: Rc<Template>,
     ) -> Result<(), AllocError>
-        ensures outer { OnOk result ((d : ℕ) → d < depth → partials_of self.new d ≡ partials_of self.old d) }
+        ensures outer { (d : ℕ) → d < depth → partials_of self.new d ≡ partials_of self.old d }
         ensures own { OnOk result (partials_of self.new depth
             ≡ put_at name.now (tree_view template.value) (partials_of self.old depth)) }
-        ensures deeper { OnOk result ((d : ℕ) → depth < d → partials_of self.new d ≡ nothing_at) }
+        ensures err { OnErr result (partials_of self.new depth ≡ partials_of self.old depth) }
+        ensures deeper { (d : ℕ) → depth < d → partials_of self.new d ≡ nothing_at }
     {
         self.drop_deeper(depth);
         let name = String::from_str(self.alloc, name)?;
