@@ -5,7 +5,7 @@ use Rattle.std.proofs.lemmas.Bool.Decides.{nat_tests}
 use Rattle.std.proofs.lemmas.List.{length-set, length-take-le, take-take, take_all, take_more, take_more_set}
 use Rattle.handlebars_scope.specs.Scopes.{nothing_at}
 use Rattle.handlebars_layers.specs.PartialsByDepth.{kept_to, partials_at, partials_in}
-use Rattle.handlebars_layers.specs.RisingDepths.{Rises, depths_of}
+use Rattle.handlebars_layers.specs.RisingDepths.{AllBefore, Rises, depths_of}
 use Rattle.handlebars_layers.specs.declared.partials.OfFrame.{OfFrame}
 
 -- ---- the tests of one entry
@@ -23,11 +23,6 @@ kept-none : (f : OfFrame) (fs : List OfFrame) (k : ℕ) → k < f.depth → kept
 kept-none f fs k deep = grind (arith, nat_tests)
 
 -- ---- depths that rise
-
--- Each entry is of a frame that is less deep than this depth.
-abbrev pub AllBefore : ℕ → List OfFrame → Type 0
-AllBefore depth [] = Unit {0}
-AllBefore depth (f ∷ fs) = (f.depth < depth) × AllBefore depth fs
 
 low-last : (low : ℕ) (fs : List OfFrame) (f : OfFrame) → Rises low (depths_of (fs ++ f ∷ [])) → low ≤ f.depth
 low-last low [] f rising = rising.0
@@ -54,9 +49,9 @@ rises-then low (g ∷ gs) f above before rising =
     let less : g.depth < f.depth = before.0 in
     (rising.0, rises-then (suc g.depth) gs f (omega arith) before.1 rising.1)
 
-pub rises-last : (fs : List OfFrame) (f : OfFrame) → AllBefore f.depth fs → Rises 0 (depths_of fs)
-    → Rises 0 (depths_of (fs ++ f ∷ []))
-rises-last fs f before rising = rises-then 0 fs f (omega arith) before rising
+pub rises-last : (fs : List OfFrame) (f : OfFrame) → 0 < f.depth → AllBefore f.depth fs → Rises 1 (depths_of fs)
+    → Rises 1 (depths_of (fs ++ f ∷ []))
+rises-last fs f layer before rising = rises-then 1 fs f (omega arith) before rising
 
 before-append : (fs : List OfFrame) (f : OfFrame) (k : ℕ) → AllBefore f.depth fs → f.depth < k → AllBefore k (fs ++ f ∷ [])
 before-append [] f k before less = (less, tt)
@@ -77,7 +72,7 @@ none-from (g ∷ gs) k d before deep =
     let differ : d ≢ g.depth = λ e. omega arith in
     past-at g gs d differ ∙ none-from gs k d before.1 deep
 
-none-below : (low : ℕ) (fs : List OfFrame) (d : ℕ) → Rises low (depths_of fs) → d < low → partials_at fs d ≡ nothing_at
+pub none-below : (low : ℕ) (fs : List OfFrame) (d : ℕ) → Rises low (depths_of fs) → d < low → partials_at fs d ≡ nothing_at
 none-below low [] d rising less = refl
 none-below low (g ∷ gs) d rising less =
     let above : low ≤ g.depth = rising.0 in
@@ -127,8 +122,8 @@ rises-kept_from low (g ∷ gs) k rising = elim (cases_lt k g.depth) [
       (rising.0, rises-kept_from (suc g.depth) gs k rising.1)
 ]
 
-pub rises-kept : (fs : List OfFrame) (k : ℕ) → Rises 0 (depths_of fs) → Rises 0 (depths_of (kept_to k fs))
-rises-kept fs k rising = rises-kept_from 0 fs k rising
+pub rises-kept : (fs : List OfFrame) (k : ℕ) → Rises 1 (depths_of fs) → Rises 1 (depths_of (kept_to k fs))
+rises-kept fs k rising = rises-kept_from 1 fs k rising
 
 keeps-from : (low : ℕ) (fs : List OfFrame) (k d : ℕ) → Rises low (depths_of fs) → d ≤ k
     → partials_at (kept_to k fs) d ≡ partials_at fs d
@@ -144,9 +139,9 @@ keeps-from low (g ∷ gs) k d rising near = elim (cases_lt k g.depth) [
 ]
 
 -- frames that are no deeper have what they had
-pub keeps : (fs : List OfFrame) (k d : ℕ) → Rises 0 (depths_of fs) → d ≤ k
+pub keeps : (fs : List OfFrame) (k d : ℕ) → Rises 1 (depths_of fs) → d ≤ k
     → partials_at (kept_to k fs) d ≡ partials_at fs d
-keeps fs k d rising near = keeps-from 0 fs k d rising near
+keeps fs k d rising near = keeps-from 1 fs k d rising near
 
 -- deeper frames have nothing
 pub drops : (fs : List OfFrame) (k d : ℕ) → k < d → partials_at (kept_to k fs) d ≡ nothing_at
@@ -174,15 +169,15 @@ prefix-shorter all es n prefix less =
 
 -- ---- entries, split into the last one and those before it
 
-module _ (es fs : List OfFrame) (f : OfFrame) (split : es ≡ fs ++ f ∷ []) (rising : Rises 0 (depths_of es)) where
-  rises-split : Rises 0 (depths_of (fs ++ f ∷ []))
-  rises-split = subst (λ (gs : List OfFrame). Rises 0 (depths_of gs)) split rising
+module _ (es fs : List OfFrame) (f : OfFrame) (split : es ≡ fs ++ f ∷ []) (rising : Rises 1 (depths_of es)) where
+  rises-split : Rises 1 (depths_of (fs ++ f ∷ []))
+  rises-split = subst (λ (gs : List OfFrame). Rises 1 (depths_of gs)) split rising
 
-  pub rises-rest : Rises 0 (depths_of fs)
-  rises-rest = rises-prefix 0 fs f rises-split
+  pub rises-rest : Rises 1 (depths_of fs)
+  rises-rest = rises-prefix 1 fs f rises-split
 
   pub before-split : AllBefore f.depth fs
-  before-split = before-last 0 fs f rises-split
+  before-split = before-last 1 fs f rises-split
 
   pub split-at : partials_at es f.depth ≡ partials_in f
   split-at = ap (λ (gs : List OfFrame). partials_at gs f.depth) split ∙ last-at fs f before-split

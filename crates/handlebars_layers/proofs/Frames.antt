@@ -1,5 +1,5 @@
 -- Frames by their number, and how paths are resolved from them.
-use Rattle.std.proofs.Common.{◌≡◌, ◌⊎◌, inl, inr, ◌<◌, ◌≤◌, ◌+◌, ◌-◌, nat_lt, ℕ, zero, suc, arith, true, false, List, [], ◌∷◌, ◌++◌, Some, None, length, drop, refl, sym, ap, ◌∙◌}
+use Rattle.std.proofs.Common.{◌≡◌, ◌⊎◌, inl, inr, ◌<◌, ◌≤◌, ◌+◌, ◌-◌, nat_lt, ℕ, zero, suc, arith, Bool, true, false, List, [], ◌∷◌, ◌++◌, Some, None, length, drop, refl, sym, ap, ◌∙◌}
 use Rattle.std.proofs.Math.ListN.{drop_of_length-le}
 use Rattle.std.proofs.lemmas.Bool.Decides.{nat_tests}
 use Rattle.std.specs.Prelude.{slice_get}
@@ -7,11 +7,11 @@ use Rattle.serde_json.specs.Data.{Data}
 use Rattle.handlebars_base.specs.Bytes.{Text}
 use Rattle.handlebars_base.specs.Optional.{◌>>=◌, with_or}
 use Rattle.handlebars_base.specs.Path.{Segment}
-use Rattle.handlebars_scope.specs.Resolve.{along, frame_up, in_block_value, is_from_root, names_of, or_else, resolution_in, resolution_of_bound, resolution_of_name, unbound_resolution, ups_in, variable_at}
+use Rattle.handlebars_scope.specs.Resolve.{along, frame_up, in_block_value, is_from_root, names_of, or_else, resolution_in, resolution_of_bound, resolution_of_name, single_plain_name, unbound_resolution, under_prefix, ups_in, variable_at}
 use Rattle.handlebars_scope.specs.Scopes.{Bound, Frame}
 use Rattle.handlebars_semantics.specs.State.{nearest_variables}
 use Rattle.handlebars_layers.specs.Chain.{names_at}
-use Rattle.handlebars_layers.specs.Frames.{base_value_at, bound_at, frames_up, is_some_frame, nearest_resolution, frames_around}
+use Rattle.handlebars_layers.specs.Frames.{base_value_at, bound_at, frames_up, is_some_frame, nearest_resolution, frames_around, path_resolution}
 
 lt_or_le : (a b : ℕ) → (a < b) ⊎ (b ≤ a)
 lt_or_le zero zero = inr (omega arith)
@@ -51,6 +51,18 @@ first-drop zero [] = refl
 first-drop (suc n) [] = refl
 first-drop zero (f ∷ fs) = refl
 first-drop (suc n) (f ∷ fs) = first-drop n fs
+
+pub drop-here : (n : ℕ) (fs : List Frame) (f : Frame) → Some f ≡ slice_get fs n → drop n fs ≡ f ∷ drop (n + 1) fs
+drop-here n [] f is = absurd (cc)
+drop-here zero (g ∷ fs) f is = let e : g ≡ f = cc in ap (λ (h : Frame). h ∷ fs) e
+drop-here (suc n) (g ∷ fs) f is =
+    let count : suc n + 1 ≡ suc (n + 1) = omega arith in
+    drop-here n fs f is ∙ ap (λ m. f ∷ drop m (g ∷ fs)) (sym count)
+
+pub drop-none : (n : ℕ) (fs : List Frame) → None ≡ slice_get fs n → drop n fs ≡ []
+drop-none n [] is = end-drop n [] (omega arith)
+drop-none zero (f ∷ fs) is = absurd (cc)
+drop-none (suc n) (f ∷ fs) is = drop-none n fs is
 
 -- ---- the nearest frame
 
@@ -130,10 +142,10 @@ variable-none (f ∷ fs) (suc level) name is = variable-none fs level name is
 
 -- ---- resolutions
 
-first-resolution : (fs : List Frame) (segments : List Segment)
-    → with_or (slice_get fs 0) (λ f. resolution_in false f segments) (along (names_of segments)) ≡ nearest_resolution fs segments
-first-resolution [] segments = refl
-first-resolution (f ∷ fs) segments = refl
+first-resolution : (recursive : Bool) (fs : List Frame) (segments : List Segment)
+    → with_or (slice_get fs 0) (λ f. resolution_in recursive f segments) (along (names_of segments)) ≡ nearest_resolution recursive fs segments
+first-resolution recursive [] segments = refl
+first-resolution recursive (f ∷ fs) segments = refl
 
 up-first : (fs gs : List Frame) (n : ℕ) → Some gs ≡ frames_up fs n
     → (g : Frame) × (hs : List Frame) × (gs ≡ g ∷ hs) × (slice_get fs n ≡ Some g)
@@ -146,39 +158,62 @@ up-missing [] n is = refl
 up-missing (f ∷ fs) zero is = absurd (cc)
 up-missing (f ∷ fs) (suc n) is = up-missing fs n is
 
-up-some-resolution : (fs gs : List Frame) (n : ℕ) (segments : List Segment) → Some gs ≡ frames_up fs n
-    → with_or (frame_up fs n) (λ f. resolution_in false f segments) (along (names_of segments)) ≡ nearest_resolution gs segments
-up-some-resolution fs gs n segments is =
+up-some-resolution : (recursive : Bool) (fs gs : List Frame) (n : ℕ) (segments : List Segment) → Some gs ≡ frames_up fs n
+    → with_or (frame_up fs n) (λ f. resolution_in recursive f segments) (along (names_of segments)) ≡ nearest_resolution recursive gs segments
+up-some-resolution recursive fs gs n segments is =
     let found = up-first fs gs n is in
-    ap (λ o. with_or (or_else o (slice_get fs 0)) (λ f. resolution_in false f segments) (along (names_of segments))) found.3
-    ∙ sym (ap (λ hs. nearest_resolution hs segments) found.2)
+    ap (λ o. with_or (or_else o (slice_get fs 0)) (λ f. resolution_in recursive f segments) (along (names_of segments))) found.3
+    ∙ sym (ap (λ hs. nearest_resolution recursive hs segments) found.2)
 
-up-none-resolution : (fs : List Frame) (n : ℕ) (segments : List Segment) → None ≡ frames_up fs n
-    → with_or (frame_up fs n) (λ f. resolution_in false f segments) (along (names_of segments)) ≡ nearest_resolution fs segments
-up-none-resolution fs n segments is = rw (up-missing fs n is) (first-resolution fs segments)
+up-none-resolution : (recursive : Bool) (fs : List Frame) (n : ℕ) (segments : List Segment) → None ≡ frames_up fs n
+    → with_or (frame_up fs n) (λ f. resolution_in recursive f segments) (along (names_of segments)) ≡ nearest_resolution recursive fs segments
+up-none-resolution recursive fs n segments is = rw (up-missing fs n is) (first-resolution recursive fs segments)
 
-pub unbound-up : (fs gs : List Frame) (n : ℕ) (segments : List Segment) → is_from_root segments ≡ false → n ≡ ups_in segments
-    → Some gs ≡ frames_up fs n → nearest_resolution gs segments ≡ unbound_resolution false fs segments
-unbound-up fs gs n segments not_root is found = rw (not_root, ← is) (sym (up-some-resolution fs gs n segments found))
+pub unbound-up : (recursive : Bool) (fs gs : List Frame) (n : ℕ) (segments : List Segment) → is_from_root segments ≡ false → n ≡ ups_in segments
+    → Some gs ≡ frames_up fs n → nearest_resolution recursive gs segments ≡ unbound_resolution recursive fs segments
+unbound-up recursive fs gs n segments not_root is found = rw (not_root, ← is) (sym (up-some-resolution recursive fs gs n segments found))
 
-pub unbound-nearest : (fs : List Frame) (n : ℕ) (segments : List Segment) → is_from_root segments ≡ false → n ≡ ups_in segments
-    → None ≡ frames_up fs n → nearest_resolution fs segments ≡ unbound_resolution false fs segments
-unbound-nearest fs n segments not_root is none = rw (not_root, ← is) (sym (up-none-resolution fs n segments none))
+pub unbound-nearest : (recursive : Bool) (fs : List Frame) (n : ℕ) (segments : List Segment) → is_from_root segments ≡ false → n ≡ ups_in segments
+    → None ≡ frames_up fs n → nearest_resolution recursive fs segments ≡ unbound_resolution recursive fs segments
+unbound-nearest recursive fs n segments not_root is none = rw (not_root, ← is) (sym (up-none-resolution recursive fs n segments none))
 
-pub unbound-root : (fs gs : List Frame) (segments : List Segment) → is_from_root segments ≡ true → gs ≡ []
-    → along (names_at gs ++ names_of segments) ≡ unbound_resolution false fs segments
-unbound-root fs gs segments root none = rw (root, none) refl
+pub unbound-root : (recursive : Bool) (fs gs : List Frame) (segments : List Segment) → is_from_root segments ≡ true → gs ≡ []
+    → along (names_at gs ++ names_of segments) ≡ unbound_resolution recursive fs segments
+unbound-root recursive fs gs segments root none = rw (root, none) refl
 
 -- the nearest frame has a value, or it has none
-pub resolution-value : (fs : List Frame) (segments : List Segment) (d : Data) → Some d ≡ base_value_at fs
-    → in_block_value d (names_of segments) ≡ nearest_resolution fs segments
-resolution-value [] segments d is = absurd (cc)
-resolution-value (f ∷ fs) segments d is = rw (← is) refl
+pub resolution-value : (recursive : Bool) (fs : List Frame) (segments : List Segment) (d : Data) → Some d ≡ base_value_at fs
+    → in_block_value d (names_of segments) ≡ nearest_resolution recursive fs segments
+resolution-value recursive [] segments d is = absurd (cc)
+resolution-value recursive (f ∷ fs) segments d is = rw (← is) refl
 
-pub resolution-path : (fs : List Frame) (segments : List Segment) → None ≡ base_value_at fs
-    → along (names_at fs ++ names_of segments) ≡ nearest_resolution fs segments
-resolution-path [] segments is = refl
-resolution-path (f ∷ fs) segments is = rw (← is) refl
+pub resolution-path : (recursive : Bool) (fs : List Frame) (segments : List Segment) → None ≡ base_value_at fs
+    → path_resolution recursive fs segments ≡ nearest_resolution recursive fs segments
+resolution-path recursive [] segments is = refl
+resolution-path recursive (f ∷ fs) segments is = rw (← is) refl
+
+-- ---- along the base path, or under its prefixes
+
+pub path-under : (fs : List Frame) (segments : List Segment) (name : Text) → Some name ≡ single_plain_name segments
+    → true ≡ is_some_frame fs → under_prefix (names_at fs) name ≡ path_resolution true fs segments
+path-under [] segments name is some = absurd (cc)
+path-under (f ∷ fs) segments name is some = rw (← is) refl
+
+pub path-none : (recursive : Bool) (fs : List Frame) (segments : List Segment) → None ≡ single_plain_name segments
+    → along (names_at fs ++ names_of segments) ≡ path_resolution recursive fs segments
+path-none recursive [] segments is = refl
+path-none true (f ∷ fs) segments is = rw (← is) refl
+path-none false (f ∷ fs) segments is = refl
+
+pub path-along : (fs : List Frame) (segments : List Segment)
+    → along (names_at fs ++ names_of segments) ≡ path_resolution false fs segments
+path-along [] segments = refl
+path-along (f ∷ fs) segments = refl
+
+pub path-nowhere : (recursive : Bool) (fs : List Frame) (segments : List Segment) → false ≡ is_some_frame fs
+    → along (names_at fs ++ names_of segments) ≡ path_resolution recursive fs segments
+path-nowhere recursive [] segments is = refl
+path-nowhere recursive (f ∷ fs) segments is = absurd (cc)
 
 -- ---- bound names
 

@@ -23,9 +23,9 @@ chain-Root = search (rules, the_lemmas)
 pub chain-Outside : (frames : _) → chain_of (layer.Outside frames) ≡ chain.outside (frames_of frames.now.items)
 chain-Outside frames = search (rules, the_lemmas)
 
-pub chain-At : (node : Bor Value) (start : Bor Layer) (skipped : ℕ) (descent : Descent) (kind : LayerKind) (outer : Bor Layer)
+pub chain-At : (node : Bor Value) (start : Bor Layer) (skipped : ℕ) (descent : Bor Descent) (kind : LayerKind) (outer : Bor Layer)
     → chain_of (layer.At node start skipped descent kind outer)
-    ≡ chain.node_layer (view node.now) (chain_of start.now) skipped (descent_names descent) (kind_view kind) (chain_of outer.now)
+    ≡ chain.node_layer (view node.now) (chain_of start.now) skipped (descent_names descent.now) (kind_view kind) (chain_of outer.now)
 chain-At node start skipped descent kind outer = search (rules, the_lemmas)
 
 pub chain-Value : (value : Bor Value) (kind : LayerKind) (outer : Bor Layer)

@@ -1,6 +1,10 @@
 pub mod Frames
 pub mod Nodes
 pub mod Layers
+pub mod DescentNames
+pub mod Unbound
+pub mod Under
+pub mod InData
 pub mod Hash
 pub mod Layering
 pub mod Names

@@ -14,7 +14,7 @@ use Rattle.handlebars_base.specs.declared.json.path.PathSeg.TheVariants.{Named, 
 use Rattle.handlebars_scope.specs.Resolve.{names_of}
 use Rattle.handlebars_scope.specs.ResolutionView.{names_in}
 
-names-and : (rest : List PathSeg) (last : PathSeg)
+pub names-and : (rest : List PathSeg) (last : PathSeg)
     → names_of (segments_of (rest ++ last ∷ [])) ≡ names_of (segments_of rest) ++ names_of (segments_of (last ∷ []))
 names-and [] last = refl
 names-and (Named name ∷ rest) last = ap (λ names. string_bytes name ∷ names) (names-and rest last)
@@ -33,7 +33,7 @@ after-named path new left rest name added is =
     ∙ ap (λ names. path ++ names) (ap reverse (names-and rest (Named name))
     ∙ reverse-append (names_of (segments_of rest)) (string_bytes name ∷ [])))
 
-nameless : (r : PathRule) → names_of (segments_of (Ruled r ∷ [])) ≡ []
+pub nameless : (r : PathRule) → names_of (segments_of (Ruled r ∷ [])) ≡ []
 nameless rule.Root = refl
 nameless rule.Local = refl
 nameless rule.Up = refl

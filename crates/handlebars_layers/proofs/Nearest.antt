@@ -5,10 +5,12 @@ use Rattle.handlebars_base.specs.Bytes.{Text}
 use Rattle.handlebars_template.specs.Tree.{Tree}
 use Rattle.handlebars_scope.specs.Resolve.{or_else}
 use Rattle.handlebars_layers.specs.NearestPartial.{nearest_partial}
-use Rattle.handlebars_layers.specs.PartialsByDepth.{partials_at, partials_in}
+use Rattle.handlebars_layers.specs.PartialsByDepth.{partials_at, partials_in, partials_named}
+use Rattle.handlebars_layers.specs.PartialsView.{partials_of}
 use Rattle.handlebars_layers.specs.RisingDepths.{Rises, depths_of}
 use Rattle.handlebars_layers.specs.declared.partials.OfFrame.{OfFrame}
-use Rattle.handlebars_layers.proofs.Depths.{before-split, none-from, other-at, split-at}
+use Rattle.handlebars_layers.specs.declared.partials.Partials.{Partials}
+use Rattle.handlebars_layers.proofs.Depths.{before-split, none-below, none-from, other-at, split-at}
 
 -- ---- partials by depth and name
 
@@ -52,7 +54,7 @@ nearest-none (e ∷ es) k name less = absurd (omega arith)
 
 -- ---- entries, split into the last one and those before it
 
-module _ (es fs : List OfFrame) (f : OfFrame) (split : es ≡ fs ++ f ∷ []) (rising : Rises 0 (depths_of es)) where
+module _ (es fs : List OfFrame) (f : OfFrame) (split : es ≡ fs ++ f ∷ []) (rising : Rises 1 (depths_of es)) where
   other-named : (d : ℕ) (name : Text) → d ≢ f.depth → partials_at es d name ≡ partials_at fs d name
   other-named d name differ =
       ap (λ (gs : List OfFrame). partials_at gs d name) split
@@ -93,3 +95,20 @@ module _ (es fs : List OfFrame) (f : OfFrame) (split : es ≡ fs ++ f ∷ []) (r
       let same : (d : ℕ) → d ≤ k → partials_at es d name ≡ partials_at fs d name = λ d near.
       other-named d name (λ e. omega arith) in
       sym (nearest-same (partials_at es) (partials_at fs) k name same)
+
+-- ---- the ground
+
+or_else-assoc : {X : Type 0} (a b c : Option X) → or_else a (or_else b c) ≡ or_else (or_else a b) c
+or_else-assoc None b c = refl
+or_else-assoc (Some x) b c = refl
+
+-- no layer has the depth 0, so the ground is asked last
+pub nearest-ground : (p : Partials) (k : ℕ) (name : Text)
+    → nearest_partial (partials_of p) k name ≡ or_else (nearest_partial (partials_at p.all.items) k name) (partials_named p.ground name)
+nearest-ground p zero name =
+    sym (ap (λ (none : Text → Option Tree). or_else (none name) (partials_named p.ground name))
+    (none-below 1 p.all.items 0 p.rising (omega arith)))
+nearest-ground p (suc k) name =
+    ap (or_else (partials_at p.all.items (suc k) name)) (nearest-ground p k name)
+    ∙ or_else-assoc (partials_at p.all.items (suc k) name) (nearest_partial (partials_at p.all.items) k name)
+    (partials_named p.ground name)

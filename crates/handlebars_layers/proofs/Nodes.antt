@@ -1,5 +1,5 @@
 -- The values of layers are what their names lead to.
-use Rattle.std.proofs.Common.{◌≡◌, true, List, [], ◌++◌, Option, Some, None, refl, sym, ap, ◌∙◌, subst}
+use Rattle.std.proofs.Common.{◌≡◌, ℕ, true, List, [], ◌++◌, Option, Some, None, refl, sym, ap, ◌∙◌, subst}
 use Rattle.serde_json.specs.Data.{Data}
 use Rattle.handlebars_base.specs.Answers.{Answer, answer_map, gives, fails}
 use Rattle.handlebars_base.specs.Bytes.{Text}
@@ -7,7 +7,7 @@ use Rattle.handlebars_base.specs.Reasons.{Refusal}
 use Rattle.handlebars_base.specs.Scoped.{missing}
 use Rattle.handlebars_scope.specs.Resolve.{along, found_along, found_by, then_at, value_at}
 use Rattle.handlebars_scope.proofs.Resolutions.{value_at-append, value_at-on}
-use Rattle.handlebars_layers.specs.Chain.{Chain, NodesAreThere, IsValue, frame_layer, frames, is_no_layer, no_layer, node_layer, outside, value_layer}
+use Rattle.handlebars_layers.specs.Chain.{Chain, LayerKind, NodesAreThere, IsValue, frame_layer, frames, frames_from, is_no_layer, kind_names, names_at, no_layer, node_layer, outside, value_layer}
 
 pub leads : (a : Answer (Option Data)) (v : Data) → IsValue a v → a ≡ gives (Some v)
 leads (gives (Some e)) v h = ap (λ x. gives (Some x)) h
@@ -48,3 +48,17 @@ found-nothing d xs ys is =
 pub found-fails : (d : Data) (xs ys : List Text) (r : Refusal) → fails r ≡ value_at d xs → fails r ≡ found_by (along (xs ++ ys)) d
 found-fails d xs ys r is =
     ap (answer_map (found_along (xs ++ ys))) (sym (value_at-append d xs ys ∙ ap (λ a. then_at a (λ e. value_at e ys)) (sym is)))
+
+-- ---- a layer of the data
+
+module _ (d : Data) (c : Chain) (v : Data) (start : Chain) (n : ℕ) (names : List Text) (kind : LayerKind) (outer : Chain)
+    (is : c ≡ node_layer v start n names kind outer) where
+  pub node-names : (m : ℕ) → names_at (frames_from c m) ≡ names_at (frames_from start n) ++ (names ++ kind_names kind)
+  node-names m = ap (λ x. names_at (frames_from x m)) is
+
+  pub node-value : NodesAreThere d c → value_at d (names_at (frames_from start n) ++ (names ++ kind_names kind)) ≡ gives (Some v)
+  node-value lead =
+      leads (value_at d (names_at (frames_from start n) ++ (names ++ kind_names kind))) v (subst (NodesAreThere d) is lead).0
+
+  pub node-start : NodesAreThere d c → NodesAreThere d start
+  node-start lead = (subst (NodesAreThere d) is lead).1

@@ -1,138 +1,146 @@
--- Setting a partial in the frame at a depth, once the entries of deeper frames are dropped: in the last entry, if it is of
--- that frame, and otherwise in an entry after it.
-use Rattle.std.proofs.Common.{◌≡◌, ◌≢◌, ◌<◌, ℕ, suc, ◌-◌, arith, Bool, true, false, if◌then◌else◌, get_or, slice_set, length, take, List, [], ◌∷◌, ◌++◌, Result, Ok, Err, OnErr, sym, ap, ◌∙◌, subst}
+-- Setting a partial in the frame at a depth, once the entries of deeper layers are dropped: in the last entry, if it is of that
+-- layer, and otherwise in an entry after it.
+use Rattle.std.proofs.Common.{◌≡◌, ◌<◌, ◌≤◌, ℕ, zero, suc, ◌-◌, ◌==◌, arith, Bool, true, false, if◌then◌else◌, get_or, slice_set, length, take, List, [], ◌∷◌, ◌++◌, Result, Ok, Err, OnErr, refl, sym, ap, ◌∙◌, subst}
+use Rattle.std.proofs.lemmas.Bool.Decides.{nat_tests}
+use Rattle.std.specs.Prelude.{Some, slice_get}
 use Rattle.handlebars_base.specs.Bytes.{Text}
 use Rattle.handlebars_template.specs.Tree.{Tree}
 use Rattle.handlebars_scope.specs.Scopes.{nothing_at, put_at}
-use Rattle.handlebars_layers.specs.PartialsByDepth.{kept_to, partials_at, partials_in}
-use Rattle.handlebars_layers.specs.RisingDepths.{Rises, depths_of}
+use Rattle.handlebars_layers.specs.PartialsByDepth.{ends_at, kept_to, partials_at, partials_in, partials_named}
+use Rattle.handlebars_layers.specs.PartialsView.{partials_of}
+use Rattle.handlebars_layers.specs.RisingDepths.{AllBefore, Rises, depths_of}
 use Rattle.handlebars_layers.specs.declared.partials.OfFrame.{OfFrame}
-use Rattle.handlebars_layers.proofs.Depths.{AllBefore, before-kept, before-other, before-split, keeps, last-at, last-set, last-split, none-from, other-at, rises-kept, rises-last, rises-rest, split-at}
-
--- The entries are these, and none of them is of a frame at this depth or a deeper one.
-abbrev pub EndsBefore : ℕ → List OfFrame → List OfFrame → Type 0
-EndsBefore depth es others = (others ≡ es) × AllBefore depth es
+use Rattle.handlebars_layers.specs.declared.partials.Partials.{Partials}
+use Rattle.handlebars_layers.proofs.Depths.{before-kept, before-split, drops, keeps, last-at, last-set, last-split, none-from, other-at, rises-last, rises-rest, split-at}
 
 -- what holds whatever is returned
 pub on-err : {T E P : Type 0} (r : Result T E) → P → OnErr r P
 on-err (Ok x) p = tt
 on-err (Err e) p = p
 
-all-before : (es : List OfFrame) (k : ℕ) → length es ≡ 0 → AllBefore k es
-all-before [] k none = tt
-all-before (e ∷ es) k none = absurd (omega arith)
+-- the partials of a layer
+pub layer-of : (p : Partials) (d : ℕ) → 0 < d → partials_of p d ≡ partials_at p.all.items d
+layer-of p zero layer = absurd (omega arith)
+layer-of p (suc d) layer = refl
 
-module _ (old es : List OfFrame) (depth : ℕ) (kept : es ≡ kept_to depth old) (rising : Rises 0 (depths_of old)) where
-  rises-left : Rises 0 (depths_of es)
-  rises-left = subst (λ (fs : List OfFrame). Rises 0 (depths_of fs)) (sym kept) (rises-kept old depth rising)
+-- ---- entries of deeper layers are dropped
 
-  before-next : AllBefore (suc depth) es
-  before-next = subst (λ (fs : List OfFrame). AllBefore (suc depth) fs) (sym kept) (before-kept old depth)
+module _ (new old : Partials) (depth : ℕ) (ground : new.ground ≡ old.ground) (all : new.all.items ≡ kept_to depth old.all.items) where
+  pub outer-kept : (d : ℕ) → d ≤ depth → partials_of new d ≡ partials_of old d
+  outer-kept zero near = ap partials_named ground
+  outer-kept (suc d) near =
+      ap (λ (fs : List OfFrame). partials_at fs (suc d)) all ∙ keeps old.all.items depth (suc d) old.rising near
 
-  same-at : (d : ℕ) → d < suc depth → partials_at es d ≡ partials_at old d
-  same-at d near = ap (λ (fs : List OfFrame). partials_at fs d) kept ∙ keeps old depth d rising (omega arith)
+  pub deeper-dropped : (d : ℕ) → depth < d → partials_of new d ≡ nothing_at
+  deeper-dropped zero deep = absurd (omega arith)
+  deeper-dropped (suc d) deep =
+      ap (λ (fs : List OfFrame). partials_at fs (suc d)) all ∙ drops old.all.items depth (suc d) deep
 
-  -- ---- nothing is set
+  pub deepest-kept : AllBefore (suc depth) new.all.items
+  deepest-kept = subst (λ (fs : List OfFrame). AllBefore (suc depth) fs) (sym all) (before-kept old.all.items depth)
 
-  module _ (new : List OfFrame) (is : new ≡ es) where
-    pub outer-kept : (d : ℕ) → d < depth → partials_at new d ≡ partials_at old d
-    outer-kept d outer = ap (λ (fs : List OfFrame). partials_at fs d) is ∙ same-at d (omega arith)
+-- ---- whether the last entry is of the layer
 
-    pub own-kept : partials_at new depth ≡ partials_at old depth
-    own-kept = ap (λ (fs : List OfFrame). partials_at fs depth) is ∙ same-at depth (omega arith)
+ends-last : (depth : ℕ) (fs : List OfFrame) (f : OfFrame) → ends_at depth (fs ++ f ∷ []) ≡ (f.depth == depth)
+ends-last depth [] f = refl
+ends-last depth (g ∷ []) f = refl
+ends-last depth (g ∷ (h ∷ fs)) f = ends-last depth (h ∷ fs) f
 
-    pub deeper-dropped : (d : ℕ) → depth < d → partials_at new d ≡ nothing_at
-    deeper-dropped d deep =
-        ap (λ (fs : List OfFrame). partials_at fs d) is ∙ none-from es (suc depth) d before-next (omega arith)
+ends-at : (depth : ℕ) (es : List OfFrame) (n : ℕ) (f : OfFrame) → n ≡ length es → 0 < n → f ≡ get_or es (n - 1) f
+    → ends_at depth es ≡ (f.depth == depth)
+ends-at depth es n f count some is = ap (ends_at depth) (last-split es n f count some is) ∙ ends-last depth (take (n - 1) es) f
 
-  -- ---- an entry after all others
+-- the same, of the item before the end
+pub ends-get : (depth : ℕ) (es : List OfFrame) (f : OfFrame) → Some f ≡ slice_get es (length es - 1)
+    → (f.depth == depth) ≡ ends_at depth es
+ends-get depth [] f is = absurd (cc)
+ends-get depth (e ∷ []) f is = let same : f ≡ e = cc in ap (λ (g : OfFrame). g.depth == depth) same
+ends-get depth (e ∷ (g ∷ es)) f is =
+    let all : suc (suc (length es)) - 1 ≡ suc (length es) = omega arith in
+    let rest : suc (length es) - 1 ≡ length es = omega arith in
+    ends-get depth (g ∷ es) f (is ∙ ap (slice_get (e ∷ (g ∷ es))) all ∙ sym (ap (slice_get (g ∷ es)) rest))
 
-  module _ (others : List OfFrame) (own : OfFrame) (ends : EndsBefore depth es others) (here : own.depth ≡ depth) where
-    before-own : AllBefore own.depth es
-    before-own = subst (λ (d : ℕ). AllBefore d es) (sym here) ends.1
+pub ends-here : (depth : ℕ) (es : List OfFrame) (n : ℕ) (f : OfFrame) → n ≡ length es → 0 < n → f ≡ get_or es (n - 1) f
+    → ends_at depth es ≡ true → f.depth ≡ depth
+ends-here depth es n f count some is ends =
+    let same : (f.depth == depth) ≡ true = sym (ends-at depth es n f count some is) ∙ ends in
+    grind (arith, nat_tests)
 
-    pub rises-added : (b : Bool) (new : List OfFrame) → new ≡ (if b then others ++ own ∷ [] else others)
-        → Rises 0 (depths_of new)
-    rises-added true new is =
-        subst (λ (fs : List OfFrame). Rises 0 (depths_of fs)) (sym (is ∙ ap (λ (fs : List OfFrame). fs ++ own ∷ []) ends.0))
-        (rises-last es own before-own rises-left)
-    rises-added false new is = subst (λ (fs : List OfFrame). Rises 0 (depths_of fs)) (sym (is ∙ ends.0)) rises-left
+single-before : (f : OfFrame) (depth : ℕ) → f.depth < suc depth → (f.depth == depth) ≡ false → f.depth < depth
+single-before f depth near differ = grind (arith, nat_tests)
 
-    pub outer-added : (d : ℕ) → d < depth → partials_at (others ++ own ∷ []) d ≡ partials_at old d
-    outer-added d outer =
-        ap (λ (fs : List OfFrame). partials_at (fs ++ own ∷ []) d) ends.0
-        ∙ other-at es own d (λ e. omega arith)
-        ∙ same-at d (omega arith)
+-- if it is not, all entries are of less deep layers
+pub ends-before : (low depth : ℕ) (es : List OfFrame) → Rises low (depths_of es) → AllBefore (suc depth) es
+    → ends_at depth es ≡ false → AllBefore depth es
+ends-before low depth [] rising before ends = tt
+ends-before low depth (f ∷ []) rising before ends = (single-before f depth before.0 ends, tt)
+ends-before low depth (f ∷ (g ∷ fs)) rising before ends =
+    let rest = ends-before (suc f.depth) depth (g ∷ fs) rising.1 before.1 ends in
+    let above : suc f.depth ≤ g.depth = rising.1.0 in
+    let less : g.depth < depth = rest.0 in
+    (omega arith, rest)
 
-    pub own-added : (name : Text) (t : Tree) → partials_in own ≡ put_at name t nothing_at
-        → partials_at (others ++ own ∷ []) depth ≡ put_at name t (partials_at old depth)
-    own-added name t is =
-        ap (λ (fs : List OfFrame). partials_at (fs ++ own ∷ []) depth) ends.0
-        ∙ ap (partials_at (es ++ own ∷ [])) (sym here)
-        ∙ last-at es own before-own
-        ∙ is
-        ∙ ap (put_at name t) (sym (none-from es depth depth ends.1 (omega arith)) ∙ same-at depth (omega arith))
+-- ---- the last entry is changed
 
-    pub deeper-added : (d : ℕ) → depth < d → partials_at (others ++ own ∷ []) d ≡ nothing_at
-    deeper-added d deep =
-        ap (λ (fs : List OfFrame). partials_at (fs ++ own ∷ []) d) ends.0
-        ∙ other-at es own d (λ e. omega arith)
-        ∙ none-from es depth d ends.1 (omega arith)
+module _ (es : List OfFrame) (depth : ℕ) (rising : Rises 1 (depths_of es)) (layer : 0 < depth)
+    (n : ℕ) (last own : OfFrame) (count : n ≡ length es) (some : 0 < n) (is : last ≡ get_or es (n - 1) last)
+    (here : last.depth ≡ depth) (same : own.depth ≡ last.depth) where
+  split : es ≡ take (n - 1) es ++ last ∷ []
+  split = last-split es n last count some is
 
-  -- ---- the last entry
+  before-changed : AllBefore own.depth (take (n - 1) es)
+  before-changed = subst (λ (d : ℕ). AllBefore d (take (n - 1) es)) (sym same) (before-split es _ last split rising)
 
-  module _ (n : ℕ) (last own : OfFrame) (count : n ≡ length es) (some : 0 < n) (is : last ≡ get_or es (n - 1) last)
-      (same : own.depth ≡ last.depth) where
-    split : es ≡ take (n - 1) es ++ last ∷ []
-    split = last-split es n last count some is
+  pub rises-changed : Rises 1 (depths_of (slice_set es (n - 1) own))
+  rises-changed =
+      subst (λ (fs : List OfFrame). Rises 1 (depths_of fs)) (sym (last-set es n own count some))
+      (rises-last (take (n - 1) es) own (omega arith) before-changed (rises-rest es _ last split rising))
 
-    before-changed : AllBefore own.depth (take (n - 1) es)
-    before-changed = subst (λ (d : ℕ). AllBefore d (take (n - 1) es)) (sym same) (before-split es _ last split rises-left)
+  pub outer-changed : (d : ℕ) → d < depth → partials_at (slice_set es (n - 1) own) d ≡ partials_at es d
+  outer-changed d outer =
+      ap (λ (fs : List OfFrame). partials_at fs d) (last-set es n own count some)
+      ∙ other-at (take (n - 1) es) own d (λ e. omega arith)
+      ∙ sym (ap (λ (fs : List OfFrame). partials_at fs d) split ∙ other-at (take (n - 1) es) last d (λ e. omega arith))
 
-    pub rises-changed : Rises 0 (depths_of (slice_set es (n - 1) own))
-    rises-changed =
-        subst (λ (fs : List OfFrame). Rises 0 (depths_of fs)) (sym (last-set es n own count some))
-        (rises-last (take (n - 1) es) own before-changed (rises-rest es _ last split rises-left))
+  at-changed : partials_at (slice_set es (n - 1) own) depth ≡ partials_in own
+  at-changed =
+      ap (λ (fs : List OfFrame). partials_at fs depth) (last-set es n own count some)
+      ∙ ap (partials_at (take (n - 1) es ++ own ∷ [])) (sym (same ∙ here))
+      ∙ last-at (take (n - 1) es) own before-changed
 
-    pub outer-changed : last.depth ≡ depth → (d : ℕ) → d < depth → partials_at (slice_set es (n - 1) own) d ≡ partials_at old d
-    outer-changed here d outer =
-        ap (λ (fs : List OfFrame). partials_at fs d) (last-set es n own count some)
-        ∙ other-at (take (n - 1) es) own d (λ e. omega arith)
-        ∙ sym (ap (λ (fs : List OfFrame). partials_at fs d) split ∙ other-at (take (n - 1) es) last d (λ e. omega arith))
-        ∙ same-at d (omega arith)
+  at-last : partials_in last ≡ partials_at es depth
+  at-last = sym (split-at es _ last split rising) ∙ ap (partials_at es) here
 
-    at-changed : last.depth ≡ depth → partials_at (slice_set es (n - 1) own) depth ≡ partials_in own
-    at-changed here =
-        ap (λ (fs : List OfFrame). partials_at fs depth) (last-set es n own count some)
-        ∙ ap (partials_at (take (n - 1) es ++ own ∷ [])) (sym (same ∙ here))
-        ∙ last-at (take (n - 1) es) own before-changed
+  pub own-changed : (name : Text) (t : Tree) → partials_in own ≡ put_at name t (partials_in last)
+      → partials_at (slice_set es (n - 1) own) depth ≡ put_at name t (partials_at es depth)
+  own-changed name t put = at-changed ∙ put ∙ ap (put_at name t) at-last
 
-    at-last : last.depth ≡ depth → partials_in last ≡ partials_at old depth
-    at-last here = sym (split-at es _ last split rises-left) ∙ ap (partials_at es) here ∙ same-at depth (omega arith)
+  pub own-unchanged : partials_in own ≡ partials_in last → partials_at (slice_set es (n - 1) own) depth ≡ partials_at es depth
+  own-unchanged unchanged = at-changed ∙ unchanged ∙ at-last
 
-    pub own-changed : last.depth ≡ depth → (name : Text) (t : Tree) → partials_in own ≡ put_at name t (partials_in last)
-        → partials_at (slice_set es (n - 1) own) depth ≡ put_at name t (partials_at old depth)
-    own-changed here name t put = at-changed here ∙ put ∙ ap (put_at name t) (at-last here)
+  pub deeper-changed : (d : ℕ) → depth < d → partials_at (slice_set es (n - 1) own) d ≡ nothing_at
+  deeper-changed d deep =
+      ap (λ (fs : List OfFrame). partials_at fs d) (last-set es n own count some)
+      ∙ other-at (take (n - 1) es) own d (λ e. omega arith)
+      ∙ none-from (take (n - 1) es) own.depth d before-changed (omega arith)
 
-    pub own-unchanged : last.depth ≡ depth → partials_in own ≡ partials_in last
-        → partials_at (slice_set es (n - 1) own) depth ≡ partials_at old depth
-    own-unchanged here unchanged = at-changed here ∙ unchanged ∙ at-last here
+-- ---- an entry is added
 
-    pub deeper-changed : last.depth ≡ depth → (d : ℕ) → depth < d → partials_at (slice_set es (n - 1) own) d ≡ nothing_at
-    deeper-changed here d deep =
-        ap (λ (fs : List OfFrame). partials_at fs d) (last-set es n own count some)
-        ∙ other-at (take (n - 1) es) own d (λ e. omega arith)
-        ∙ none-from (take (n - 1) es) own.depth d before-changed (omega arith)
+module _ (es : List OfFrame) (depth : ℕ) (rising : Rises 1 (depths_of es)) (layer : 0 < depth) (before : AllBefore depth es)
+    (own : OfFrame) (here : own.depth ≡ depth) where
+  before-own : AllBefore own.depth es
+  before-own = subst (λ (d : ℕ). AllBefore d es) (sym here) before
 
-  -- ---- whether an entry has to be added
+  pub rises-added : (b : Bool) (new : List OfFrame) → new ≡ (if b then es ++ own ∷ [] else es) → Rises 1 (depths_of new)
+  rises-added true new is =
+      subst (λ (fs : List OfFrame). Rises 1 (depths_of fs)) (sym is) (rises-last es own (omega arith) before-own rising)
+  rises-added false new is = subst (λ (fs : List OfFrame). Rises 1 (depths_of fs)) (sym is) rising
 
-  pub ends-there : (n : ℕ) (last : OfFrame) (others : List OfFrame) → n ≡ length es → 0 < n → last ≡ get_or es (n - 1) last
-      → last.depth ≢ depth → others ≡ slice_set es (n - 1) last → EndsBefore depth es others
-  ends-there n last others count some is differ unchanged =
-      let split = last-split es n last count some is in (
-        unchanged ∙ last-set es n last count some ∙ sym split,
-        before-other es _ last split rises-left depth before-next differ,
-      )
+  pub outer-added : (d : ℕ) → d < depth → partials_at (es ++ own ∷ []) d ≡ partials_at es d
+  outer-added d outer = other-at es own d (λ e. omega arith)
 
-  pub ends-nowhere : (n : ℕ) (others : List OfFrame) → n ≡ length es → n ≡ 0 → others ≡ es → EndsBefore depth es others
-  ends-nowhere n others count none unchanged = (unchanged, all-before es depth (omega arith))
+  pub own-added : partials_at (es ++ own ∷ []) depth ≡ partials_in own
+  own-added = ap (partials_at (es ++ own ∷ [])) (sym here) ∙ last-at es own before-own
+
+  pub deeper-added : (d : ℕ) → depth < d → partials_at (es ++ own ∷ []) d ≡ nothing_at
+  deeper-added d deep = other-at es own d (λ e. omega arith) ∙ none-from es depth d before (omega arith)

@@ -110,6 +110,22 @@ is_no_layer (node_layer d start n names kind outer) = false
 is_no_layer (value_layer d kind outer) = false
 is_no_layer (frame_layer f outer) = false
 
+-- it is the layer of the frames from outside
+abbrev pub is_outside : Chain → Bool
+is_outside no_layer = false
+is_outside (outside fs) = true
+is_outside (node_layer d start n names kind outer) = false
+is_outside (value_layer d kind outer) = false
+is_outside (frame_layer f outer) = false
+
+-- the layer around this one, if a run entered this one
+abbrev pub outer_chain : Chain → Option Chain
+outer_chain no_layer = None
+outer_chain (outside fs) = None
+outer_chain (node_layer d start n names kind outer) = Some outer
+outer_chain (value_layer d kind outer) = Some outer
+outer_chain (frame_layer f outer) = Some outer
+
 -- ---- the nodes
 
 -- what names lead to is this value

@@ -1,7 +1,7 @@
 -- What the code finds, as a value with its origin.
-use Rattle.std.specs.Prelude.{◌≡◌, ◌++◌, List, Option, option_map, Result, Ok, Err}
+use Rattle.std.specs.Prelude.{◌≡◌, ◌++◌, List, None, Option, Some, option_map, Result, Ok, Err, string_bytes}
 use denote.Ref.{Bor}
-use Rattle.serde_json.specs.Data.{Data, boolean, number, unsigned, string}
+use Rattle.serde_json.specs.Data.{Data}
 use Rattle.serde_json.specs.View.{view}
 use Rattle.handlebars_base.specs.Answers.{Answer, gives, fails_for}
 use Rattle.handlebars_base.specs.Bytes.{Text}
@@ -9,11 +9,12 @@ use Rattle.handlebars_base.specs.Reasons.{invalid_json_index}
 use Rattle.handlebars_base.specs.Scoped.{Found, walked, value, missing}
 use Rattle.handlebars_base.specs.PathView.{segments_of}
 use Rattle.serde_json.specs.declared.value.Value as json
-use Rattle.handlebars_scope.specs.Resolve.{Resolution, along, in_block_value, names_of, value_at}
+use Rattle.handlebars_scope.specs.Resolve.{Resolution, along, in_block_value, names_of, under_prefix, value_at}
 use Rattle.handlebars_scope.specs.ResolutionView.{names_in}
 use Rattle.handlebars_scope.specs.Scopes as scopes
 use Rattle.handlebars_scope.specs.Scopes.{Frame}
 use Rattle.handlebars_layers.specs.Chain.{IsValue, frames_from, names_at}
+use Rattle.handlebars_layers.specs.FrameValues.{value_data}
 use Rattle.handlebars_layers.specs.LayerView.{descent_names, chain_of}
 use Rattle.handlebars_layers.specs.declared.scopes.Scopes as code
 use Rattle.handlebars_layers.specs.declared.resolution.Resolution as code_resolution
@@ -21,7 +22,8 @@ use Rattle.handlebars_layers.specs.declared.resolution.Resolution.TheVariants as
 use Rattle.handlebars_layers.specs.declared.destination.Bound.{Bound}
 use Rattle.handlebars_layers.specs.declared.destination.Bound.TheVariants as bound
 use Rattle.handlebars_layers.specs.declared.destination.FrameValue.{FrameValue}
-use Rattle.handlebars_layers.specs.declared.destination.FrameValue.TheVariants.{Json, Index, Truth, Key}
+use Rattle.handlebars_layers.specs.declared.destination.FoundInData.{FoundInData}
+use Rattle.handlebars_layers.specs.declared.destination.FoundInData.TheVariants as in_data
 use Rattle.handlebars_layers.specs.declared.destination.Route.{Route}
 use Rattle.handlebars_layers.specs.declared.destination.Destination.{Destination}
 use Rattle.handlebars_layers.specs.declared.destination.Destination.TheVariants.{Node, Value, Nothing, NoIndex}
@@ -37,12 +39,6 @@ given_in s = view s.given.now
 abbrev pub route_names : Route → List Text
 route_names r = names_at (frames_in r.start) ++ descent_names r.descent
 
-abbrev pub value_data : FrameValue → Data
-value_data (Json v) = view v.now
-value_data (Index i) = number (unsigned i)
-value_data (Truth b) = boolean b
-value_data (Key k) = string k.now
-
 abbrev pub bound_view : Bound → scopes.Bound
 bound_view (bound.Path names) = scopes.bound_path (names_in names.now)
 bound_view (bound.Value v) = scopes.bound_value (value_data v)
@@ -53,12 +49,18 @@ destination_of (Value v) = gives (value (value_data v))
 destination_of Nothing = gives missing
 destination_of (NoIndex name) = fails_for (invalid_json_index name.now)
 
--- A value of the data is what the names of its route lead to.
+-- A value of the data is what the names of its route lead to, and the route is one in these data.
 abbrev pub IsRouted : Destination → Data → Type 0
-IsRouted (Node node r) d = IsValue (value_at d (route_names r)) (view node.now)
+IsRouted (Node node r) d = IsValue (value_at d (route_names r)) (view node.now) × (given_in r.start ≡ d)
 IsRouted (Value v) d = Unit {0}
 IsRouted Nothing d = Unit {0}
 IsRouted (NoIndex name) d = Unit {0}
+
+-- a value of other data alone, without a path
+abbrev pub found_in_data : FoundInData → Answer (Option Data)
+found_in_data (in_data.Value v) = gives (Some (value_data v))
+found_in_data in_data.Nothing = gives None
+found_in_data (in_data.NoIndex name) = fails_for (invalid_json_index (string_bytes name))
 
 -- ---- resolutions
 
@@ -66,11 +68,13 @@ abbrev pub layer_resolution : code_resolution.Resolution → Resolution
 layer_resolution (resolution.Within v rest) = in_block_value (value_data v) (names_of (segments_of rest.now))
 layer_resolution (resolution.Along start bound rest) =
     along (names_at (frames_in start) ++ (names_in bound.now ++ names_of (segments_of rest.now)))
+layer_resolution (resolution.UnderPrefix start name) = under_prefix (names_at (frames_in start)) (string_bytes name.now)
 
 -- A resolution from a frame is one in these data.
 abbrev pub IsInData : code_resolution.Resolution → Bor json.Value → Type 0
 IsInData (resolution.Within v rest) given = Unit {0}
 IsInData (resolution.Along start bound rest) given = start.given ≡ given
+IsInData (resolution.UnderPrefix start name) given = start.given ≡ given
 
 -- what names lead to within a value, or an error for a name that isn't an index
 abbrev pub within_of : Result (Option FrameValue) (Bor Text) → Answer (Option Data)

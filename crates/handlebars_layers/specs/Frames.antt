@@ -3,7 +3,7 @@ use Rattle.std.specs.Prelude.{ℕ, zero, suc, Bool, true, false, List, [], ◌�
 use Rattle.handlebars_base.specs.Bytes.{Text}
 use Rattle.serde_json.specs.Data.{Data, null, boolean, number, string, array, object}
 use Rattle.handlebars_base.specs.Path.{Segment}
-use Rattle.handlebars_scope.specs.Resolve.{Resolution, along, names_of, resolution_in, resolution_of_bound}
+use Rattle.handlebars_scope.specs.Resolve.{Resolution, along, names_of, resolution_from, resolution_in, resolution_of_bound, single_plain_name}
 use Rattle.handlebars_scope.specs.Scopes.{Bound, Frame}
 use Rattle.handlebars_semantics.specs.State.{nearest_variables}
 use Rattle.handlebars_layers.specs.Chain.{names_at}
@@ -45,9 +45,14 @@ abbrev pub nearest_bound_resolution : List Frame → Bound → List Segment → 
 nearest_bound_resolution fs b rest = resolution_of_bound (names_at fs) b rest
 
 -- the resolution of segments in the nearest frame, or without any frame
-abbrev pub nearest_resolution : List Frame → List Segment → Resolution
-nearest_resolution [] segments = along (names_of segments)
-nearest_resolution (f ∷ fs) segments = resolution_in false f segments
+abbrev pub nearest_resolution : Bool → List Frame → List Segment → Resolution
+nearest_resolution recursive [] segments = along (names_of segments)
+nearest_resolution recursive (f ∷ fs) segments = resolution_in recursive f segments
+
+-- the resolution along the base path of the nearest frame, or without any frame
+abbrev pub path_resolution : Bool → List Frame → List Segment → Resolution
+path_resolution recursive [] segments = along (names_of segments)
+path_resolution recursive (f ∷ fs) segments = resolution_from recursive f.base_path segments (single_plain_name segments)
 
 -- the value has no members
 abbrev pub is_scalar : Data → Bool

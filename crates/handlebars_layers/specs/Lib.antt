@@ -1,8 +1,12 @@
 pub mod DataSet
 pub mod Chain
 pub mod Frames
+pub mod Binding
+pub mod FrameValues
 pub mod LayerView
 pub mod Destination
+pub mod Under
+pub mod Hits
 pub mod Layering
 pub mod NearestPartial
 pub mod RisingDepths

@@ -1,15 +1,22 @@
 -- Partials by the depth of their frame.
-use Rattle.std.specs.Prelude.{ℕ, List, [], ◌∷◌, Option, option_map, if◌then◌else◌, ◌==◌, nat_le}
-use Rattle.std.specs.BTreeMap.{get_by_text}
+use Rattle.std.specs.Prelude.{ℕ, Bool, false, List, [], ◌∷◌, Option, String, option_map, if◌then◌else◌, ◌==◌, nat_le}
+use Rattle.std.specs.BTreeMap.{BTreeMap, get_by_text}
+use Rattle.std.specs.declared.alloc.Global.{Global}
+use Rattle.std.specs.declared.rc.Rc.{Rc}
 use Rattle.handlebars_base.specs.Bytes.{Text}
 use Rattle.handlebars_template.specs.Tree.{Tree}
 use Rattle.handlebars_template.specs.TreeView.{tree_view}
+use Rattle.handlebars_template.specs.declared.template.tree.Template.{Template}
 use Rattle.handlebars_scope.specs.Scopes.{nothing_at}
 use Rattle.handlebars_layers.specs.declared.partials.OfFrame.{OfFrame}
 
--- the partials of one frame by name
+-- the partials of a map by name
+abbrev pub partials_named : BTreeMap (String Global) (Rc Template Global) → Text → Option Tree
+partials_named by_name name = option_map (λ t. tree_view t.value) (get_by_text by_name name)
+
+-- the partials of one layer by name
 abbrev pub partials_in : OfFrame → Text → Option Tree
-partials_in frame name = option_map (λ t. tree_view t.value) (get_by_text frame.by_name name)
+partials_in frame = partials_named frame.by_name
 
 -- A frame has the partials of the entry of its depth. Without such an entry it has none.
 abbrev pub partials_at : List OfFrame → ℕ → Text → Option Tree
@@ -20,3 +27,9 @@ partials_at (f ∷ fs) depth = if depth == f.depth then partials_in f else parti
 abbrev pub kept_to : ℕ → List OfFrame → List OfFrame
 kept_to depth [] = []
 kept_to depth (f ∷ fs) = if nat_le f.depth depth then f ∷ kept_to depth fs else []
+
+-- whether the last entry is of the layer at this depth
+abbrev pub ends_at : ℕ → List OfFrame → Bool
+ends_at depth [] = false
+ends_at depth (f ∷ []) = f.depth == depth
+ends_at depth (f ∷ (g ∷ fs)) = ends_at depth (g ∷ fs)

@@ -1,5 +1,5 @@
 -- Depths that rise strictly from entry to entry.
-use Rattle.std.specs.Prelude.{ℕ, suc, ◌≤◌, List, [], ◌∷◌, map}
+use Rattle.std.specs.Prelude.{ℕ, suc, ◌<◌, ◌≤◌, List, [], ◌∷◌, map}
 use Rattle.std.specs.Coded.{×_prop, Unit-prop, le_prop}
 use Rattle.handlebars_layers.specs.declared.partials.OfFrame.{OfFrame}
 
@@ -10,6 +10,11 @@ depths_of frames = map (λ f. f.depth) frames
 abbrev pub Rises : ℕ → List ℕ → Type 0
 Rises low [] = Unit {0}
 Rises low (n ∷ ns) = (low ≤ n) × Rises (suc n) ns
+
+-- Each entry is of a frame that is less deep than this depth.
+abbrev pub AllBefore : ℕ → List OfFrame → Type 0
+AllBefore depth [] = Unit {0}
+AllBefore depth (f ∷ fs) = (f.depth < depth) × AllBefore depth fs
 
 pub Rises-prop : (low : ℕ) (ns : List ℕ) → IsProp (Rises low ns)
 Rises-prop low [] = Unit-prop

@@ -33,6 +33,17 @@ pub enum FrameValue<'r> {
     Key(&'r str),
 }
 
+/// What a path leads to in other data than those of the frames. There the value has no route.
+#[derive(Drop)]
+pub enum FoundInData<'c> {
+    /// A value, of the data or of a frame.
+    Value(FrameValue<'c>),
+    /// No value.
+    Nothing,
+    /// This name isn't an index, and it was looked up in an array.
+    NoIndex(String),
+}
+
 /// What a frame binds a name to: a path below its own base path, or a value.
 #[derive(Clone, Copy)]
 pub enum Bound<'r> {

@@ -2,7 +2,6 @@
 
 ghost use Rattle.std.specs.Prelude.{◌≡◌, Bool, None, option_map, slice_get};
 ghost use Rattle.serde_json.specs.View.{view};
-ghost use Rattle.handlebars_scope.specs.MergedView.{hash_in};
 ghost use Rattle.handlebars_scope.specs.Resolve.{value_at};
 ghost use Rattle.handlebars_scope.specs.ResolutionView.{reached_of};
 ghost use Rattle.handlebars_scope.specs.Scopes.{nothing_at};
@@ -11,12 +10,13 @@ ghost use Rattle.handlebars_helpers.specs.Iterations.{iteration_key, iteration_v
 ghost use Rattle.handlebars_semantics.specs.Inclusion.{with_bound};
 ghost use Rattle.handlebars_layers.specs.Chain.{block_bound, value_bound, iteration};
 ghost use Rattle.handlebars_layers.specs.LayerView.{names_seen};
-ghost use Rattle.handlebars_layers.specs.Destination.{bound_view, value_data};
+ghost use Rattle.handlebars_layers.specs.Destination.{bound_view};
+ghost use Rattle.handlebars_layers.specs.FrameValues.{hash_values, value_data};
 
 use crate::destination::{Bound, FrameValue};
 use crate::layer::{BlockNames, Layer, LayerKind};
 use crate::scopes::Scopes;
-use handlebars_base::json::value::{Json, PathAndJson};
+use handlebars_base::json::value::Json;
 use handlebars_scope::block::{BlockContext, BlockParamHolder};
 use handlebars_scope::context::looked_up::LookedUp;
 use handlebars_scope::context::members::along_names;
@@ -31,7 +31,8 @@ impl<'r, 'a> Scopes<'r, 'a> {
     ghost use Rattle.handlebars_semantics.specs.State.{nearest_variables};
     ghost use Rattle.handlebars_layers.specs.Chain.{names_at};
     ghost use Rattle.handlebars_layers.specs.Frames.{base_value_at, bound_at};
-    ghost use Rattle.handlebars_layers.specs.Destination.{bound_view, given_in, frames_in, value_data};
+    ghost use Rattle.handlebars_layers.specs.Destination.{bound_view, given_in, frames_in};
+    ghost use Rattle.handlebars_layers.specs.FrameValues.{value_data};
 
     /// Returns the frames without any frame, in which paths lead from the data.
     pub fn root(self) -> Scopes<'r, 'a>
@@ -43,6 +44,7 @@ impl<'r, 'a> Scopes<'r, 'a> {
             skipped: 0,
             root: self.root,
             given: self.given,
+            binds: self.binds,
         }
     }
 
@@ -136,7 +138,8 @@ impl<'r> LayerKind<'r> {
     ghost use Rattle.handlebars_layers.specs.Chain.{kind_bound, kind_variables};
     ghost use Rattle.handlebars_layers.specs.Frames.{or_outer};
     ghost use Rattle.handlebars_layers.specs.LayerView.{kind_view};
-    ghost use Rattle.handlebars_layers.specs.Destination.{bound_view, value_data};
+    ghost use Rattle.handlebars_layers.specs.Destination.{bound_view};
+    ghost use Rattle.handlebars_layers.specs.FrameValues.{value_data};
 
     /// Returns what a name is bound to in a layer whose base a name is bound to so.
     pub fn bound(self, base: Bound<'r>, name: &str) -> Option<Bound<'r>>
@@ -253,16 +256,16 @@ fn value_bound<'r>(names: &BlockNames<'r>, base: Bound<'r>, name: &str) -> Optio
 }
 
 // Returns the value of the hash argument of a name, if there is one.
-fn bound_hash<'r>(hash: &'r BTreeMap<&'r str, PathAndJson<'r>>, name: &str) -> Option<Bound<'r>>
-    ensures { option_map bound_view result ≡ with_bound (hash_in hash.now.entries) nothing_at name.now }
+fn bound_hash<'r>(hash: &'r BTreeMap<&'r str, FrameValue<'r>>, name: &str) -> Option<Bound<'r>>
+    ensures { option_map bound_view result ≡ with_bound (hash_values hash.now.entries) nothing_at name.now }
 {
-    let mut found = None;
-    for (key, value) in hash.iter() {
-        if *key == name {
-            found = Some(Bound::Value(FrameValue::Json(value.value())));
-        }
+    if hash.len() == 0 {
+        return None;
     }
-    found
+    match hash.get(name) {
+        Some(value) => Some(Bound::Value(*value)),
+        None => None,
+    }
 }
 
 // Returns the key of an iteration, or its index if it has no key.

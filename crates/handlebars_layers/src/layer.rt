@@ -1,7 +1,8 @@
 //! Layers: a scope frame each, and the layers around it.
 
+use crate::destination::FrameValue;
 use handlebars_base::json::path::PathSeg;
-use handlebars_base::json::value::{Json, PathAndJson};
+use handlebars_base::json::value::Json;
 use handlebars_scope::block::BlockContext;
 use std::collections::{BTreeMap, VecDeque};
 
@@ -19,7 +20,7 @@ pub enum Layer<'r, 'a> {
         node: &'a Json,
         start: &'r Layer<'r, 'a>,
         skipped: usize,
-        descent: Descent<'r>,
+        descent: &'r Descent<'r>,
         kind: LayerKind<'r>,
         outer: &'r Layer<'r, 'a>,
     },
@@ -36,11 +37,14 @@ pub enum Layer<'r, 'a> {
     },
 }
 
-/// The names that lead from a frame to a value: those that a name of the frame is bound to, and those of segments.
+/// The names that lead from a frame to a value: those of another descent, those that a name of the frame is bound to, those of
+/// segments, and one more that recursive lookup found. Only recursive lookup makes a descent after another one.
 #[derive(Clone, Copy)]
 pub struct Descent<'r> {
+    pub after: Option<&'r Descent<'r>>,
     pub bound: &'r [String],
     pub rest: &'r [PathSeg],
+    pub last: Option<&'r String>,
 }
 
 /// The names that a layer binds, and its variables.
@@ -60,7 +64,7 @@ pub enum LayerKind<'r> {
     },
     /// A partial call: its hash arguments. It has the variables of the frame around it.
     Partial {
-        hash: &'r BTreeMap<&'r str, PathAndJson<'r>>,
+        hash: &'r BTreeMap<&'r str, FrameValue<'r>>,
     },
 }
 

@@ -1,13 +1,18 @@
-//! Scope frames as a list on the stack, nearest first, and what paths lead to in them, without recursive lookup. Names of paths
-//! and JSON of variables are made only where they are asked for.
+//! Scope frames as a list on the stack, nearest first, and what paths lead to in them. Names of paths and JSON of variables are
+//! made only where they are asked for.
 #![tactic(auto)]
 
+mod binding;
+mod descents;
 pub mod destination;
+pub mod elsewhere;
 mod frame;
+pub mod innermost;
 pub mod laws;
 pub mod layer;
 pub mod lookup;
 pub mod made;
 pub mod partials;
+mod prefixes;
 mod resolution;
 pub mod scopes;

@@ -1,6 +1,6 @@
 //! What paths lead to in layers. Nothing is made for it.
 
-ghost use Rattle.std.specs.Prelude.{◌≡◌, ◌++◌, false, option_map, true};
+ghost use Rattle.std.specs.Prelude.{◌≡◌, ◌++◌, option_map, true};
 ghost use Rattle.serde_json.specs.Data.{Data};
 ghost use Rattle.serde_json.specs.View.{view};
 ghost use Rattle.handlebars_base.specs.Answers.{gives};
@@ -9,10 +9,12 @@ ghost use Rattle.handlebars_scope.specs.Resolve.{along, found_by, names_of, navi
 ghost use Rattle.handlebars_scope.specs.ResolutionView.{names_in};
 ghost use Rattle.handlebars_layers.specs.Chain.{names_at};
 ghost use Rattle.handlebars_layers.specs.Frames.{is_scalar};
-ghost use Rattle.handlebars_layers.specs.Destination.{IsRouted, given_in, frames_in, destination_of, value_data, within_of};
+ghost use Rattle.handlebars_layers.specs.FrameValues.{value_data};
+ghost use Rattle.handlebars_layers.specs.Destination.{IsRouted, given_in, frames_in, destination_of, within_of};
 
 use crate::destination::{Destination, FrameValue, Route};
 use crate::layer::Descent;
+use crate::prefixes::under_prefix;
 use crate::resolution::{Resolution, resolution_of};
 use crate::scopes::Scopes;
 use handlebars_base::json::path::{Path, PathSeg};
@@ -20,17 +22,21 @@ use handlebars_scope::context::looked_up::LookedUp;
 use handlebars_scope::context::members::{along_segments, enter};
 use handlebars_scope::context::reached::Reached;
 
-/// Returns what a path leads to.
+/// Returns what a path leads to, with recursive lookup or without.
 pub fn resolve<'r, 'a>(
     scopes: Scopes<'r, 'a>,
+    recursive: bool,
     path: &'r Path,
     looked_up: &LookedUp,
 ) -> Destination<'r, 'a>
     ensures there { IsRouted result (given_in scopes.entry) }
-    ensures found { destination_of result ≡ resolve false (frames_in scopes.entry) (reference_of path.now) (given_in scopes.entry) }
+    ensures found { destination_of result
+        ≡ resolve recursive (frames_in scopes.entry) (reference_of path.now) (given_in scopes.entry) }
 {
     match path {
-        Path::Relative((segments, _)) => navigate(scopes, segments.as_slice(), looked_up),
+        Path::Relative((segments, _)) => {
+            navigate(scopes, recursive, segments.as_slice(), looked_up)
+        }
         Path::Local((level, name, _)) => match variable_at(scopes, *level, name.as_str()) {
             Some(value) => Destination::Value(value),
             None => Destination::Nothing,
@@ -38,9 +44,13 @@ pub fn resolve<'r, 'a>(
     }
 }
 
-// Returns the variable of the frame this many frames out, if there is one.
+/// Returns the variable of the frame this many frames out, if there is one.
 #[inline(always)]
-fn variable_at<'r, 'a>(scopes: Scopes<'r, 'a>, level: usize, name: &str) -> Option<FrameValue<'r>>
+pub fn variable_at<'r, 'a>(
+    scopes: Scopes<'r, 'a>,
+    level: usize,
+    name: &str,
+) -> Option<FrameValue<'r>>
     ensures { option_map value_data result ≡ variable_at (frames_in scopes.entry) level name.now }
 {
     match scopes.up(level) {
@@ -49,17 +59,20 @@ fn variable_at<'r, 'a>(scopes: Scopes<'r, 'a>, level: usize, name: &str) -> Opti
     }
 }
 
-/// Returns what segments lead to.
+/// Returns what segments lead to, with recursive lookup or without.
 pub fn navigate<'r, 'a>(
     scopes: Scopes<'r, 'a>,
+    recursive: bool,
     segments: &'r [PathSeg],
     looked_up: &LookedUp,
 ) -> Destination<'r, 'a>
     ensures there { IsRouted result (given_in scopes.entry) }
-    ensures found { destination_of result ≡ navigate false (frames_in scopes.entry) (segments_of segments.now) (given_in scopes.entry) }
+    ensures found { destination_of result
+        ≡ navigate recursive (frames_in scopes.entry) (segments_of segments.now) (given_in scopes.entry) }
 {
-    match resolution_of(scopes, segments) {
+    match resolution_of(scopes, recursive, segments) {
         Resolution::Along { start, bound, rest } => enter_from(start, bound, rest, looked_up),
+        Resolution::UnderPrefix { start, name } => under_prefix(start, name, looked_up),
         Resolution::Within(value, rest) => match within(value, rest) {
             Ok(Some(found)) => Destination::Value(found),
             Ok(None) => Destination::Nothing,
@@ -89,7 +102,12 @@ fn enter_from<'r, 'a>(
                     node,
                     Route {
                         start,
-                        descent: Descent { bound, rest },
+                        descent: Descent {
+                            after: None,
+                            bound,
+                            rest,
+                            last: None,
+                        },
                     },
                 ),
                 Reached::Nothing => Destination::Nothing,
@@ -101,8 +119,11 @@ fn enter_from<'r, 'a>(
     }
 }
 
-// Returns what segments lead to from a value that has no path, or the name that isn't an index.
-fn within<'r>(value: FrameValue<'r>, rest: &'r [PathSeg]) -> Result<Option<FrameValue<'r>>, &'r str>
+/// Returns what segments lead to from a value that has no path, or the name that isn't an index.
+pub fn within<'r>(
+    value: FrameValue<'r>,
+    rest: &'r [PathSeg],
+) -> Result<Option<FrameValue<'r>>, &'r str>
     ensures { within_of result ≡ value_at (value_data value.entry) (names_of (segments_of rest.now)) }
 {
     match value {

@@ -6,8 +6,9 @@ ghost use Rattle.handlebars_base.specs.PathView.{segments_of};
 ghost use Rattle.handlebars_scope.specs.Resolve.{names_of};
 ghost use Rattle.handlebars_scope.specs.ResolutionView.{names_in};
 ghost use Rattle.handlebars_layers.specs.Chain.{frames_from, names_at, kind_names};
-ghost use Rattle.handlebars_layers.specs.LayerView.{descent_names, chain_of, kind_view};
-ghost use Rattle.handlebars_layers.specs.Destination.{route_names, value_data};
+ghost use Rattle.handlebars_layers.specs.FrameValues.{value_data};
+ghost use Rattle.handlebars_layers.specs.LayerView.{chain_of, descent_names, kind_view, last_names, own_names};
+ghost use Rattle.handlebars_layers.specs.Destination.{route_names};
 
 use crate::destination::{FrameValue, Route};
 use crate::frame::outside_frame;
@@ -45,7 +46,7 @@ pub fn path_of(route: Route<'_, '_>, alloc: Global) -> Result<Vec<String>, Alloc
     ensures { IfOk result (λ path. names_in path.items ≡ route_names route.entry) }
 {
     let mut path = Vec::new(alloc);
-    push_descent(alloc, &mut path, route.descent)?;
+    push_descent(alloc, &mut path, &route.descent)?;
     let mut here = route.start.nearest;
     let mut skipped = route.start.skipped;
     while let Layer::At {
@@ -111,12 +112,37 @@ fn push_text(alloc: Global, path: &mut Vec<String>, name: &str) -> Result<(), Al
 fn push_descent(
     alloc: Global,
     path: &mut Vec<String>,
-    descent: Descent<'_>,
+    descent: &Descent<'_>,
 ) -> Result<(), AllocError>
-    ensures { OnOk result (names_in path.new.items ≡ names_in path.old.items ++ reverse (descent_names descent.entry)) }
+    ensures { OnOk result (names_in path.new.items ≡ names_in path.old.items ++ reverse (descent_names descent.now)) }
 {
+    let mut here = descent;
+    'descents: loop {
+        push_own(alloc, path, here)?;
+        match here.after {
+            Some(after) => here = after,
+            None => return Ok(()),
+        }
+    }
+}
+
+// Adds the names of a descent, the last one first, without those of the descent before it.
+fn push_own(alloc: Global, path: &mut Vec<String>, descent: &Descent<'_>) -> Result<(), AllocError>
+    ensures { OnOk result (names_in path.new.items ≡ names_in path.old.items ++ reverse (own_names descent.now)) }
+{
+    push_last(path, descent.last)?;
     push_segments(alloc, path, descent.rest)?;
     push_names(path, descent.bound)
+}
+
+// Adds the name that recursive lookup found, if it found one.
+fn push_last(path: &mut Vec<String>, last: Option<&String>) -> Result<(), AllocError>
+    ensures { OnOk result (names_in path.new.items ≡ names_in path.old.items ++ last_names last.entry) }
+{
+    if let Some(name) = last {
+        path.push(name.clone()?)?;
+    }
+    Ok(())
 }
 
 // Adds names, the last one first.

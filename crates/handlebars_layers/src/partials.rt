@@ -1,14 +1,20 @@
 //! Partials that decorators set in scope frames, by the depth of each frame, which is the number of layers around it.
 
 ghost use Rattle.std.specs.Prelude.{◌≡◌, ◌<◌, ◌≤◌, ℕ, OnErr, OnOk, option_map, string_bytes, take};
+ghost use Rattle.handlebars_scope.specs.ScopeView.{frames_of};
+ghost use Rattle.handlebars_semantics.specs.State.{partial_in};
+ghost use Rattle.handlebars_layers.specs.ScopeFrames.{further_frames};
 ghost use Rattle.handlebars_template.specs.TreeView.{tree_view};
 ghost use Rattle.handlebars_scope.specs.Scopes.{nothing_at, put_at};
-ghost use Rattle.handlebars_layers.specs.PartialsByDepth.{kept_to, partials_in};
+ghost use Rattle.handlebars_layers.specs.PartialsByDepth.{ends_at, kept_to, partials_at, partials_in, partials_named};
+ghost use Rattle.handlebars_layers.specs.NearestPartial.{nearest_partial};
 ghost use Rattle.handlebars_layers.specs.RisingDepths.{Rises, Rises-prop, depths_of};
 
+use crate::frame::outside_frame;
+use handlebars_scope::block::BlockContext;
 use handlebars_template::template::Template;
 use std::alloc::{AllocError, Global};
-use std::collections::BTreeMap;
+use std::collections::{BTreeMap, VecDeque};
 use std::rc::Rc;
 
 // An entry: the partials of one frame.
@@ -34,7 +40,7 @@ impl OfFrame {
     fn get(&self, name: &str) -> Option<&Rc<Template>>
         ensures { option_map (λ t. tree_view t.now.value) result ≡ partials_in self.now name.now }
     {
-        self.by_name.get(name)
+        get_named(&self.by_name, name)
     }
 
     // Sets the partial of a name.
@@ -44,32 +50,80 @@ impl OfFrame {
             ≡ put_at (string_bytes name) (tree_view template.value) (partials_in self.old)) }
         ensures err { OnErr result (partials_in self.new ≡ partials_in self.old) }
     {
-        self.by_name.insert(name, template)?;
-        Ok(())
+        set_named(&mut self.by_name, name, template)
     }
 }
 
-/// The partials that decorators set in the frames of a run, outermost frame first. A frame that is left may still have its
-/// partials here until they are dropped.
+// Returns the partial of a name in a map, if there is one.
+fn get_named<'p>(
+    by_name: &'p BTreeMap<String, Rc<Template>>,
+    name: &str,
+) -> Option<&'p Rc<Template>>
+    ensures { option_map (λ t. tree_view t.now.value) result ≡ partials_named by_name.now name.now }
+{
+    by_name.get(name)
+}
+
+// Sets the partial of a name in a map.
+fn set_named(
+    by_name: &mut BTreeMap<String, Rc<Template>>,
+    name: String,
+    template: Rc<Template>,
+) -> Result<(), AllocError>
+    ensures ok { OnOk result (partials_named by_name.new
+        ≡ put_at (string_bytes name) (tree_view template.value) (partials_named by_name.old)) }
+    ensures err { OnErr result (partials_named by_name.new ≡ partials_named by_name.old) }
+{
+    by_name.insert(name, template)?;
+    Ok(())
+}
+
+/// The partials that decorators set in the frames of a run. Those of the nearest frame from outside, whose depth is 0, are the
+/// ground. Those of the layers follow, outermost first. A layer that is left may still have its partials here until they are
+/// dropped.
 #[derive(Drop)]
 pub struct Partials {
+    ground: BTreeMap<String, Rc<Template>>,
     all: Vec<OfFrame>,
     alloc: Global,
-    ghost rising: { Rises 0 (depths_of all.items) } by { Rises-prop 0 (depths_of all.items) },
+    ghost rising: { Rises 1 (depths_of all.items) } by { Rises-prop 1 (depths_of all.items) },
 }
 
 impl Partials {
-    ghost use Rattle.handlebars_layers.specs.NearestPartial.{nearest_partial};
+    ghost use Rattle.std.specs.Prelude.{◌<◌, suc};
+    ghost use Rattle.handlebars_scope.specs.Resolve.{or_else};
     ghost use Rattle.handlebars_layers.specs.PartialsView.{partials_of};
+    ghost use Rattle.handlebars_layers.specs.RisingDepths.{AllBefore};
 
     /// Creates partials of a run in which none is set.
     pub fn new(alloc: Global) -> Partials
         ensures { (d : ℕ) → partials_of result d ≡ nothing_at }
     {
+        Partials::over(BTreeMap::new(alloc), alloc)
+    }
+
+    /// Creates partials of a run. The nearest frame from outside has these, and no other frame has any.
+    pub fn over(ground: BTreeMap<String, Rc<Template>>, alloc: Global) -> Partials
+        ensures ground { partials_of result 0 ≡ partials_named ground }
+        ensures layers { (d : ℕ) → 0 < d → partials_of result d ≡ nothing_at }
+    {
         Partials {
+            ground,
             all: Vec::new(alloc),
             alloc,
         }
+    }
+
+    /// Returns the partials of the nearest frame from outside.
+    pub fn into_ground(self) -> BTreeMap<String, Rc<Template>>
+        ensures { partials_named result ≡ partials_of self 0 }
+    {
+        let Partials {
+            ground,
+            all: _,
+            alloc: _,
+        } = self;
+        ground
     }
 
     /// Drops the partials of all frames that are deeper than this depth.
@@ -99,20 +153,98 @@ impl Partials {
     {
         self.drop_deeper(depth);
         let name = String::from_str(self.alloc, name)?;
-        match self.all.last_mut() {
-            Some(last) if last.depth == depth => last.set(name, template),
-            _ => {
-                let mut own = OfFrame::new(depth, self.alloc);
-                own.set(name, template)?;
-                self.all.push(own)?;
-                Ok(())
+        if depth == 0 {
+            set_named(&mut self.ground, name, template)
+        } else {
+            self.set_in_layer(depth, name, template)
+        }
+    }
+
+    // Sets the partial of a name in a layer. No deeper layer has any.
+    fn set_in_layer(
+        &mut self,
+        depth: usize,
+        name: String,
+        template: Rc<Template>,
+    ) -> Result<(), AllocError>
+        requires layer { 0 < depth }
+        requires deepest { AllBefore (suc depth) self.old.all.items }
+        ensures ground { self.new.ground ≡ self.old.ground }
+        ensures outer { (d : ℕ) → d < depth → partials_at self.new.all.items d ≡ partials_at self.old.all.items d }
+        ensures own { OnOk result (partials_at self.new.all.items depth
+            ≡ put_at (string_bytes name) (tree_view template.value) (partials_at self.old.all.items depth)) }
+        ensures err { OnErr result (partials_at self.new.all.items depth ≡ partials_at self.old.all.items depth) }
+        ensures deeper { (d : ℕ) → depth < d → partials_at self.new.all.items d ≡ nothing_at }
+    {
+        if self.has_last(depth) {
+            match self.all.last_mut() {
+                Some(last) => last.set(name, template),
+                None => Ok(()),
             }
+        } else {
+            self.add(depth, name, template)
+        }
+    }
+
+    // Adds the entry of a layer, with this partial. No other entry is of this layer or of a deeper one.
+    fn add(&mut self, depth: usize, name: String, template: Rc<Template>) -> Result<(), AllocError>
+        requires layer { 0 < depth }
+        requires deepest { AllBefore depth self.old.all.items }
+        ensures ground { self.new.ground ≡ self.old.ground }
+        ensures outer { (d : ℕ) → d < depth → partials_at self.new.all.items d ≡ partials_at self.old.all.items d }
+        ensures own { OnOk result (partials_at self.new.all.items depth
+            ≡ put_at (string_bytes name) (tree_view template.value) nothing_at) }
+        ensures err { OnErr result (self.new.all.items ≡ self.old.all.items) }
+        ensures deeper { (d : ℕ) → depth < d → partials_at self.new.all.items d ≡ nothing_at }
+    {
+        let mut own = OfFrame::new(depth, self.alloc);
+        own.set(name, template)?;
+        self.all.push(own)?;
+        Ok(())
+    }
+
+    // Returns whether the last entry is of the layer at this depth.
+    fn has_last(&self, depth: usize) -> bool
+        ensures { result ≡ ends_at depth self.now.all.items }
+    {
+        match self.all.last() {
+            Some(last) => last.depth == depth,
+            None => false,
         }
     }
 
     /// Returns the partial of a name that is set nearest to the frame at this depth: in the frame itself or around it.
     pub fn get(&self, depth: usize, name: &str) -> Option<&Rc<Template>>
         ensures { option_map (λ t. tree_view t.now.value) result ≡ nearest_partial (partials_of self.now) depth name.now }
+    {
+        match self.get_in_layers(depth, name) {
+            Some(template) => Some(template),
+            None => get_named(&self.ground, name),
+        }
+    }
+
+    /// Returns the partial of a name as it is found in a frame at this depth: the one that is set nearest to it, or else that of a
+    /// frame from outside. The nearest of these frames is the ground, and has no partials of its own.
+    pub fn find<'p>(
+        &'p self,
+        depth: usize,
+        frames: &'p VecDeque<BlockContext>,
+        name: &str,
+    ) -> Option<&'p Rc<Template>>
+        ensures { option_map (λ t. tree_view t.now.value) result ≡ or_else
+            (nearest_partial (partials_of self.now) depth name.now)
+            (partial_in (further_frames (frames_of frames.now.items)) name.now) }
+    {
+        match self.get(depth, name) {
+            Some(template) => Some(template),
+            None => in_further(frames, name),
+        }
+    }
+
+    // Returns the partial of a name that is set nearest to the layer at this depth: in the layer itself or around it.
+    fn get_in_layers(&self, depth: usize, name: &str) -> Option<&Rc<Template>>
+        ensures { option_map (λ t. tree_view t.now.value) result
+            ≡ nearest_partial (partials_at self.now.all.items) depth name.now }
     {
         let mut left = self.all.as_slice();
         while let [rest @ .., last] = left {
@@ -128,7 +260,8 @@ impl Partials {
 
     // Drops the entries of frames that are deeper than this depth.
     fn drop_deeper(&mut self, depth: usize)
-        ensures { self.new.all.items ≡ kept_to depth self.old.all.items }
+        ensures all { self.new.all.items ≡ kept_to depth self.old.all.items }
+        ensures ground { self.new.ground ≡ self.old.ground }
     {
         let count = self.count_to(depth);
         self.all.truncate(count);
@@ -147,4 +280,19 @@ impl Partials {
         }
         0
     }
+}
+
+// Returns the partial of a name that the second frame or one after it has, the nearest one first.
+fn in_further<'p>(frames: &'p VecDeque<BlockContext>, name: &str) -> Option<&'p Rc<Template>>
+    ensures { option_map (λ t. tree_view t.now.value) result
+        ≡ partial_in (further_frames (frames_of frames.now.items)) name.now }
+{
+    let mut here = 1;
+    'frames: while let Some(frame) = outside_frame(frames, here) {
+        if let Some(template) = frame.get_local_partial(name) {
+            return Some(template);
+        }
+        here += 1;
+    }
+    None
 }

@@ -1,12 +1,12 @@
 //! How paths are resolved in layers. Nothing is made for it.
 
-ghost use Rattle.std.specs.Prelude.{◌≡◌, IfSome, false, option_map};
+ghost use Rattle.std.specs.Prelude.{◌≡◌, IfSome, option_map, string_bytes};
 ghost use Rattle.handlebars_base.specs.Path.{Segment};
 ghost use Rattle.handlebars_base.specs.PathView.{segments_of};
 ghost use Rattle.handlebars_scope.specs.Resolve.{after_ups, bound_resolution, is_from_root, resolution_of, resolution_of_bound, resolution_of_name};
-ghost use Rattle.handlebars_scope.specs.Resolve.{unbound_resolution, ups_in};
+ghost use Rattle.handlebars_scope.specs.Resolve.{single_plain_name, unbound_resolution, ups_in};
 ghost use Rattle.handlebars_layers.specs.Chain.{names_at};
-ghost use Rattle.handlebars_layers.specs.Frames.{nearest_resolution};
+ghost use Rattle.handlebars_layers.specs.Frames.{nearest_resolution, path_resolution};
 ghost use Rattle.handlebars_layers.specs.Destination.{IsInData, bound_view, frames_in, layer_resolution};
 
 use crate::destination::{Bound, FrameValue};
@@ -24,17 +24,26 @@ pub enum Resolution<'r, 'a> {
         bound: &'r [String],
         rest: &'r [PathSeg],
     },
+    /// By a name under the longest prefix of the base path of a frame.
+    UnderPrefix {
+        start: Scopes<'r, 'a>,
+        name: &'r String,
+    },
 }
 
 /// Returns the resolution of segments in these frames.
-pub fn resolution_of<'r, 'a>(scopes: Scopes<'r, 'a>, segments: &'r [PathSeg]) -> Resolution<'r, 'a>
-    ensures resolution { layer_resolution result ≡ resolution_of false (frames_in scopes.entry) (segments_of segments.now) }
+pub fn resolution_of<'r, 'a>(
+    scopes: Scopes<'r, 'a>,
+    recursive: bool,
+    segments: &'r [PathSeg],
+) -> Resolution<'r, 'a>
+    ensures resolution { layer_resolution result ≡ resolution_of recursive (frames_in scopes.entry) (segments_of segments.now) }
     ensures given { IsInData result scopes.entry.given }
 {
     let (ups, after) = past_ups(segments);
     match bound_resolution(scopes, after) {
         Some(resolution) => resolution,
-        None => unbound_resolution(scopes, ups, segments),
+        None => unbound_resolution(scopes, recursive, ups, segments),
     }
 }
 
@@ -55,7 +64,7 @@ fn past_ups(segments: &[PathSeg]) -> (usize, &[PathSeg])
 
 // ---- bound names
 
-// Returns the resolution of segments that begin with a bound name.
+// Returns the resolution of segments that begin with a bound name. If no frame binds a name, none is asked.
 #[inline(always)]
 fn bound_resolution<'r, 'a>(
     scopes: Scopes<'r, 'a>,
@@ -64,6 +73,9 @@ fn bound_resolution<'r, 'a>(
     ensures resolution { option_map layer_resolution result ≡ bound_resolution (frames_in scopes.entry) (segments_of segments.now) }
     ensures given { IfSome result (λ resolution. IsInData resolution scopes.entry.given) }
 {
+    if !scopes.binds {
+        return None;
+    }
     match segments {
         [PathSeg::Named(name), rest @ ..] => resolution_of_name(scopes, name.as_str(), rest),
         _ => None,
@@ -115,12 +127,13 @@ fn resolution_of_bound<'r, 'a>(
 #[inline(always)]
 fn unbound_resolution<'r, 'a>(
     scopes: Scopes<'r, 'a>,
+    recursive: bool,
     ups: usize,
     segments: &'r [PathSeg],
 ) -> Resolution<'r, 'a>
     requires { ups ≡ ups_in (segments_of segments.now) }
     ensures resolution { layer_resolution result
-        ≡ unbound_resolution false (frames_in scopes.entry) (segments_of segments.now) }
+        ≡ unbound_resolution recursive (frames_in scopes.entry) (segments_of segments.now) }
     ensures given { IsInData result scopes.entry.given }
 {
     if is_from_root(segments) {
@@ -131,8 +144,8 @@ fn unbound_resolution<'r, 'a>(
         };
     }
     match scopes.up(ups) {
-        Some(frames) => resolution_in(frames, segments),
-        None => resolution_in(scopes, segments),
+        Some(frames) => resolution_in(frames, recursive, segments),
+        None => resolution_in(scopes, recursive, segments),
     }
 }
 
@@ -148,16 +161,53 @@ fn is_from_root(segments: &[PathSeg]) -> bool
 
 // Returns the resolution of segments in the nearest frame: from its value, if it has one, or else along its base path.
 #[inline(always)]
-fn resolution_in<'r, 'a>(scopes: Scopes<'r, 'a>, segments: &'r [PathSeg]) -> Resolution<'r, 'a>
-    ensures resolution { layer_resolution result ≡ nearest_resolution (frames_in scopes.entry) (segments_of segments.now) }
+fn resolution_in<'r, 'a>(
+    scopes: Scopes<'r, 'a>,
+    recursive: bool,
+    segments: &'r [PathSeg],
+) -> Resolution<'r, 'a>
+    ensures resolution { layer_resolution result
+        ≡ nearest_resolution recursive (frames_in scopes.entry) (segments_of segments.now) }
     ensures given { IsInData result scopes.entry.given }
 {
     match scopes.base_value() {
         Some(value) => Resolution::Within(FrameValue::Json(value), segments),
-        None => Resolution::Along {
+        None => resolution_from(scopes, recursive, segments),
+    }
+}
+
+// Returns the resolution along the base path of the nearest frame. With recursive lookup a plain name is looked up under the
+// prefixes of that path.
+#[inline(always)]
+fn resolution_from<'r, 'a>(
+    scopes: Scopes<'r, 'a>,
+    recursive: bool,
+    segments: &'r [PathSeg],
+) -> Resolution<'r, 'a>
+    ensures resolution { layer_resolution result
+        ≡ path_resolution recursive (frames_in scopes.entry) (segments_of segments.now) }
+    ensures given { IsInData result scopes.entry.given }
+{
+    match plain_name(segments) {
+        Some(name) if recursive && scopes.has_frame() => Resolution::UnderPrefix {
+            start: scopes,
+            name,
+        },
+        _ => Resolution::Along {
             start: scopes,
             bound: &[],
             rest: segments,
         },
+    }
+}
+
+// Returns the name, if the segments are one name alone.
+#[inline(always)]
+fn plain_name(segments: &[PathSeg]) -> Option<&String>
+    ensures { option_map (λ name. string_bytes name.now) result ≡ single_plain_name (segments_of segments.now) }
+{
+    match segments {
+        [PathSeg::Named(name)] => Some(name),
+        _ => None,
     }
 }

@@ -3,7 +3,8 @@
 ghost use Rattle.std.specs.Prelude.{◌≡◌, true};
 ghost use Rattle.std.specs.Coded.{Coded-set, coded_bool};
 ghost use Rattle.serde_json.specs.View.{view};
-ghost use Rattle.handlebars_layers.specs.Chain.{NodesAreThere, NodesAreThere-prop, is_no_layer};
+ghost use Rattle.handlebars_layers.specs.Binding.{MayBind, MayBind-prop};
+ghost use Rattle.handlebars_layers.specs.Chain.{NodesAreThere, NodesAreThere-prop, frames, is_no_layer};
 ghost use Rattle.handlebars_layers.specs.LayerView.{chain_of};
 
 use crate::layer::Layer;
@@ -18,8 +19,11 @@ pub struct Scopes<'r, 'a> {
     /// The layer of no frame, from which paths after `@root` lead.
     pub root: &'r Layer<'r, 'a>,
     pub given: &'a Json,
+    /// Whether any of the frames may bind a name.
+    pub binds: bool,
     pub ghost rooted: { is_no_layer (chain_of root.now) ≡ true } by { Coded-set coded_bool (is_no_layer (chain_of root.now)) true },
     pub ghost lead: { NodesAreThere (view given.now) (chain_of nearest.now) } by { NodesAreThere-prop (view given.now) (chain_of nearest.now) },
+    pub ghost unbound: { MayBind binds (frames (chain_of nearest.now)) } by { MayBind-prop binds (frames (chain_of nearest.now)) },
 }
 
 impl<'r, 'a> Scopes<'r, 'a> {
@@ -54,6 +58,7 @@ impl<'r, 'a> Scopes<'r, 'a> {
                         skipped: self.skipped + 1,
                         root: self.root,
                         given: self.given,
+                        binds: self.binds,
                     })
                 } else {
                     None
@@ -64,18 +69,21 @@ impl<'r, 'a> Scopes<'r, 'a> {
                 skipped: 0,
                 root: self.root,
                 given: self.given,
+                binds: self.binds,
             }),
             Layer::Value { outer, .. } => Some(Scopes {
                 nearest: outer,
                 skipped: 0,
                 root: self.root,
                 given: self.given,
+                binds: self.binds,
             }),
             Layer::Frame { outer, .. } => Some(Scopes {
                 nearest: outer,
                 skipped: 0,
                 root: self.root,
                 given: self.given,
+                binds: self.binds,
             }),
         }
     }

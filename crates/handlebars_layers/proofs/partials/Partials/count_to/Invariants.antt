@@ -8,7 +8,7 @@ abbrev pub invariant-loop-left : goal.invariant-loop-left
 invariant-loop-left l = record {
   prefix : take (length l.left) l.self.all.items ≡ l.left;
   kept : kept_to l.depth l.left ≡ kept_to l.depth l.self.all.items;
-  rising : Rises 0 (depths_of l.left);
+  rising : Rises 1 (depths_of l.left);
 }
 
 abbrev pub decreases-loop-left : goal.decreases-loop-left

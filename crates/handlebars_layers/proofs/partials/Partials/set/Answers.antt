@@ -1,152 +1,73 @@
-use Rattle.std.proofs.Common.{◌≡◌, ◌∙◌, ap, arith, is_ok, refl}
-use Rattle.std.proofs.lemmas.Result.{IfOk-from_err, on_err_weaker, on_ok_weaker}
+use Rattle.std.proofs.Common.{◌<◌, ◌∙◌, ap, arith, suc, sym, zero}
+use Rattle.std.proofs.lemmas.Result.{on_err_weaker, on_ok_weaker}
 use Rattle.handlebars_template.specs.TreeView.{tree_view}
 use Rattle.handlebars_scope.specs.Scopes.{put_at}
-use Rattle.handlebars_layers.specs.PartialsByDepth.{partials_at, partials_in}
-use Rattle.handlebars_layers.proofs.Settings.{EndsBefore, deeper-added, deeper-changed, deeper-dropped, ends-nowhere, ends-there, on-err, outer-added, outer-changed, outer-kept, own-added, own-changed, own-kept, own-unchanged, rises-added, rises-changed}
+use Rattle.handlebars_layers.specs.PartialsByDepth.{partials_at, partials_named}
+use Rattle.handlebars_layers.proofs.Settings.{deepest-kept, deeper-dropped, layer-of, on-err, outer-kept}
 use Rattle.handlebars_layers.proofs.partials.Partials.set.Goals as goal
-use Rattle.handlebars_layers.proofs.partials.Partials.set.Goals.{in_default-via-in-Some+else-last_mut-depth, in_default-via-in-None-1}
 
--- ---- the last entry is of the frame
+pub set_in_layer-requires-clause-deepest : goal.set_in_layer-requires-clause-deepest
+set_in_layer-requires-clause-deepest c =
+    deepest-kept c.drop_deeper.new.self c.args.self.now c.args.depth c.drop_deeper.ensures.ground c.drop_deeper.ensures.all
 
-pub invariant_of-self : goal.invariant_of-self
-invariant_of-self c =
-    let old = c.args.self.now in
-    let kept = c.drop_deeper.new.self.all in
-    record {
-      rising = rises-changed old.all.items kept.items c.args.depth c.drop_deeper.ensures old.rising kept.len c.in-Some.last.now
-          c.set.new.self kept.ok.0 (c.in-Some.ensures.variant.0 refl) c.in-Some.ensures.value c.set.ensures.depth;
-    }
+-- ---- in the ground
 
-pub returns-in-Some : goal.returns-in-Some
-returns-in-Some c =
-    let old = c.args.self.now in
-    let kept = c.drop_deeper.new.self.all in
+pub returns-then-depth-eq0-clause-deeper : goal.returns-then-depth-eq0-clause-deeper
+returns-then-depth-eq0-clause-deeper c = elim [
+  | zero ↦ λ deep. absurd (omega arith)
+  | suc d ↦ λ deep.
+      deeper-dropped c.drop_deeper.new.self c.args.self.now c.args.depth c.drop_deeper.ensures.ground c.drop_deeper.ensures.all
+      (suc d) deep
+]
+
+-- ---- in a layer
+
+pub returns-else-depth-eq0-clause-outer : goal.returns-else-depth-eq0-clause-outer
+returns-else-depth-eq0-clause-outer c = elim [
+  | zero ↦ λ outer. ap partials_named (c.set_in_layer.ensures.ground ∙ c.drop_deeper.ensures.ground)
+  | suc d ↦ λ outer.
+      c.set_in_layer.ensures.outer (suc d) outer
+      ∙ outer-kept c.drop_deeper.new.self c.args.self.now c.args.depth c.drop_deeper.ensures.ground c.drop_deeper.ensures.all
+      (suc d) (omega arith)
+]
+
+pub returns-else-depth-eq0-clause-own : goal.returns-else-depth-eq0-clause-own
+returns-else-depth-eq0-clause-own c =
+    let layer : 0 < c.args.depth = omega arith in
     let tree = tree_view c.args.template.value in
-    record {
-      outer = λ d outer.
-          outer-changed old.all.items kept.items c.args.depth c.drop_deeper.ensures old.rising kept.len c.in-Some.last.now
-          c.set.new.self kept.ok.0 (c.in-Some.ensures.variant.0 refl) c.in-Some.ensures.value c.set.ensures.depth
-          c.if-last_mut-depth.true d outer;
-      own = on_ok_weaker c.set.result (λ put.
-          own-changed old.all.items kept.items c.args.depth c.drop_deeper.ensures old.rising kept.len c.in-Some.last.now
-          c.set.new.self kept.ok.0 (c.in-Some.ensures.variant.0 refl) c.in-Some.ensures.value c.set.ensures.depth
-          c.if-last_mut-depth.true c.args.name.now tree
-          (put ∙ ap (λ name. put_at name tree (partials_in c.in-Some.last.now)) c.in_ok-name.ensures.ok)) c.set.ensures.partials;
-      err = on_err_weaker c.set.result (λ unchanged.
-          own-unchanged old.all.items kept.items c.args.depth c.drop_deeper.ensures old.rising kept.len c.in-Some.last.now
-          c.set.new.self kept.ok.0 (c.in-Some.ensures.variant.0 refl) c.in-Some.ensures.value c.set.ensures.depth
-          c.if-last_mut-depth.true unchanged) c.set.ensures.err;
-      deeper = λ d deep.
-          deeper-changed old.all.items kept.items c.args.depth c.drop_deeper.ensures old.rising kept.len c.in-Some.last.now
-          c.set.new.self kept.ok.0 (c.in-Some.ensures.variant.0 refl) c.in-Some.ensures.value c.set.ensures.depth
-          c.if-last_mut-depth.true d deep;
-    }
+    let kept = c.drop_deeper.new.self in
+    on_ok_weaker c.set_in_layer.result (λ put.
+    layer-of c.set_in_layer.new.self c.args.depth layer
+    ∙ put
+    ∙ ap (λ name. put_at name tree (partials_at kept.all.items c.args.depth)) c.in_ok-name.ensures.ok
+    ∙ ap (put_at c.args.name.now tree) (sym (layer-of kept c.args.depth layer)
+    ∙ outer-kept c.drop_deeper.new.self c.args.self.now c.args.depth c.drop_deeper.ensures.ground c.drop_deeper.ensures.all
+    c.args.depth (omega arith))) c.set_in_layer.ensures.own
 
--- ---- an entry of the frame is added
-
-pub invariant_of-self-in_default : goal.invariant_of-self-in_default
-invariant_of-self-in_default c =
-    let old = c.args.self.now in
-    let kept = c.drop_deeper.new.self.all in
-    let ends : EndsBefore c.args.depth kept.items _ = elim c.in_default.branch [
-      | in_default-via-in-Some+else-last_mut-depth w ↦
-          ends-there old.all.items kept.items c.args.depth c.drop_deeper.ensures old.rising kept.len w.in-Some.last.now _ kept.ok.0
-          (w.in-Some.ensures.variant.0 refl) w.in-Some.ensures.value w.if-last_mut-depth.false (ap (λ s. s.1.0.items) w.self-is)
-      | in_default-via-in-None-1 w ↦
-          let none : kept.len ≡ 0 = grind arith in
-          ends-nowhere old.all.items kept.items c.args.depth c.drop_deeper.ensures old.rising kept.len _ kept.ok.0 none
-          (ap (λ s. s.1.0.items) w.self-is)
-    ] in
-    let here = c.set-in_default.ensures.depth ∙ c.new-own.ensures.depth in
-    record {
-      rising = rises-added old.all.items kept.items c.args.depth c.drop_deeper.ensures old.rising _ c.set-in_default.new.self ends here
-          (is_ok c.push.result) c.push.new.self.items c.push.ensures.items;
-    }
-
-pub returns-in_ok-push-in_default : goal.returns-in_ok-push-in_default
-returns-in_ok-push-in_default c =
-    let old = c.args.self.now in
-    let kept = c.drop_deeper.new.self.all in
-    let ends : EndsBefore c.args.depth kept.items _ = elim c.in_default.branch [
-      | in_default-via-in-Some+else-last_mut-depth w ↦
-          ends-there old.all.items kept.items c.args.depth c.drop_deeper.ensures old.rising kept.len w.in-Some.last.now _ kept.ok.0
-          (w.in-Some.ensures.variant.0 refl) w.in-Some.ensures.value w.if-last_mut-depth.false (ap (λ s. s.1.0.items) w.self-is)
-      | in_default-via-in-None-1 w ↦
-          let none : kept.len ≡ 0 = grind arith in
-          ends-nowhere old.all.items kept.items c.args.depth c.drop_deeper.ensures old.rising kept.len _ kept.ok.0 none
-          (ap (λ s. s.1.0.items) w.self-is)
-    ] in
-    let here = c.set-in_default.ensures.depth ∙ c.new-own.ensures.depth in
-    let tree = tree_view c.args.template.value in
-    record {
-      outer = λ d outer.
-          ap (λ fs. partials_at fs d) c.in_ok-push-in_default.ensures.items
-          ∙ outer-added old.all.items kept.items c.args.depth c.drop_deeper.ensures old.rising _ c.set-in_default.new.self ends here
-          d outer;
-      own =
-          ap (λ fs. partials_at fs c.args.depth) c.in_ok-push-in_default.ensures.items
-          ∙ own-added old.all.items kept.items c.args.depth c.drop_deeper.ensures old.rising _ c.set-in_default.new.self ends here
-          c.args.name.now tree
-          (c.in_ok-set-in_default.ensures.partials
-          ∙ ap (λ name. put_at name tree (partials_in c.new-own.result)) c.in_ok-name.ensures.ok
-          ∙ ap (put_at c.args.name.now tree) c.new-own.ensures.partials);
-      err = tt;
-      deeper = λ d deep.
-          ap (λ fs. partials_at fs d) c.in_ok-push-in_default.ensures.items
-          ∙ deeper-added old.all.items kept.items c.args.depth c.drop_deeper.ensures old.rising _ c.set-in_default.new.self ends here
-          d deep;
-    }
+pub returns-else-depth-eq0-clause-err : goal.returns-else-depth-eq0-clause-err
+returns-else-depth-eq0-clause-err c =
+    let layer : 0 < c.args.depth = omega arith in
+    let kept = c.drop_deeper.new.self in
+    on_err_weaker c.set_in_layer.result (λ unchanged.
+    layer-of c.set_in_layer.new.self c.args.depth layer
+    ∙ unchanged
+    ∙ sym (layer-of kept c.args.depth layer)
+    ∙ outer-kept c.drop_deeper.new.self c.args.self.now c.args.depth c.drop_deeper.ensures.ground c.drop_deeper.ensures.all
+    c.args.depth (omega arith)) c.set_in_layer.ensures.err
 
 -- ---- memory runs out
 
-pub returns-in_err-name : goal.returns-in_err-name
-returns-in_err-name c =
-    let old = c.args.self.now in
-    let kept = c.drop_deeper.new.self.all in
-    record {
-      outer = outer-kept old.all.items kept.items c.args.depth c.drop_deeper.ensures old.rising kept.items refl;
-      own = IfOk-from_err c.from_residual.result _ c.from_residual.ensures.0;
-      err = on-err c.from_residual.result (own-kept old.all.items kept.items c.args.depth c.drop_deeper.ensures old.rising kept.items refl);
-      deeper = deeper-dropped old.all.items kept.items c.args.depth c.drop_deeper.ensures old.rising kept.items refl;
-    }
+pub returns-in_err-name-clause-outer : goal.returns-in_err-name-clause-outer
+returns-in_err-name-clause-outer c = λ d outer.
+    outer-kept c.drop_deeper.new.self c.args.self.now c.args.depth c.drop_deeper.ensures.ground c.drop_deeper.ensures.all
+    d (omega arith)
 
-pub returns-in_err-set-in_default : goal.returns-in_err-set-in_default
-returns-in_err-set-in_default c =
-    let old = c.args.self.now in
-    let kept = c.drop_deeper.new.self.all in
-    let ends : EndsBefore c.args.depth kept.items _ = elim c.in_default.branch [
-      | in_default-via-in-Some+else-last_mut-depth w ↦
-          ends-there old.all.items kept.items c.args.depth c.drop_deeper.ensures old.rising kept.len w.in-Some.last.now _ kept.ok.0
-          (w.in-Some.ensures.variant.0 refl) w.in-Some.ensures.value w.if-last_mut-depth.false (ap (λ s. s.1.0.items) w.self-is)
-      | in_default-via-in-None-1 w ↦
-          let none : kept.len ≡ 0 = grind arith in
-          ends-nowhere old.all.items kept.items c.args.depth c.drop_deeper.ensures old.rising kept.len _ kept.ok.0 none
-          (ap (λ s. s.1.0.items) w.self-is)
-    ] in
-    record {
-      outer = outer-kept old.all.items kept.items c.args.depth c.drop_deeper.ensures old.rising _ ends.0;
-      own = IfOk-from_err c.from_residual-in_err-set-in_default.result _ c.from_residual-in_err-set-in_default.ensures.0;
-      err = on-err c.from_residual-in_err-set-in_default.result (own-kept old.all.items kept.items c.args.depth c.drop_deeper.ensures old.rising _ ends.0);
-      deeper = deeper-dropped old.all.items kept.items c.args.depth c.drop_deeper.ensures old.rising _ ends.0;
-    }
+pub returns-in_err-name-clause-err : goal.returns-in_err-name-clause-err
+returns-in_err-name-clause-err c =
+    on-err c.from_residual.result
+    (outer-kept c.drop_deeper.new.self c.args.self.now c.args.depth c.drop_deeper.ensures.ground c.drop_deeper.ensures.all
+    c.args.depth (omega arith))
 
-pub returns-in_err-push-in_default : goal.returns-in_err-push-in_default
-returns-in_err-push-in_default c =
-    let old = c.args.self.now in
-    let kept = c.drop_deeper.new.self.all in
-    let ends : EndsBefore c.args.depth kept.items _ = elim c.in_default.branch [
-      | in_default-via-in-Some+else-last_mut-depth w ↦
-          ends-there old.all.items kept.items c.args.depth c.drop_deeper.ensures old.rising kept.len w.in-Some.last.now _ kept.ok.0
-          (w.in-Some.ensures.variant.0 refl) w.in-Some.ensures.value w.if-last_mut-depth.false (ap (λ s. s.1.0.items) w.self-is)
-      | in_default-via-in-None-1 w ↦
-          let none : kept.len ≡ 0 = grind arith in
-          ends-nowhere old.all.items kept.items c.args.depth c.drop_deeper.ensures old.rising kept.len _ kept.ok.0 none
-          (ap (λ s. s.1.0.items) w.self-is)
-    ] in
-    record {
-      outer = outer-kept old.all.items kept.items c.args.depth c.drop_deeper.ensures old.rising _ (c.in_err-push-in_default.ensures.items ∙ ends.0);
-      own = IfOk-from_err c.from_residual-in_err-push-in_default.result _ c.from_residual-in_err-push-in_default.ensures.0;
-      err = on-err c.from_residual-in_err-push-in_default.result (own-kept old.all.items kept.items c.args.depth c.drop_deeper.ensures old.rising _ (c.in_err-push-in_default.ensures.items ∙ ends.0));
-      deeper = deeper-dropped old.all.items kept.items c.args.depth c.drop_deeper.ensures old.rising _ (c.in_err-push-in_default.ensures.items ∙ ends.0);
-    }
+pub returns-in_err-name-clause-deeper : goal.returns-in_err-name-clause-deeper
+returns-in_err-name-clause-deeper c =
+    deeper-dropped c.drop_deeper.new.self c.args.self.now c.args.depth c.drop_deeper.ensures.ground c.drop_deeper.ensures.all

@@ -1,0 +1,47 @@
+-- What paths lead to in other data: values alone, without their paths.
+use Rattle.std.proofs.Common.{◌≡◌, ◌++◌, ◌∙◌, ℕ, List, Option, None, Some, Result, Ok, Err, refl, sym, ap}
+use Rattle.std.specs.Prelude.{IfOk, option_map}
+use Rattle.std.specs.declared.alloc.AllocError.{AllocError}
+use Rattle.serde_json.specs.Data.{Data}
+use Rattle.handlebars_base.specs.Answers.{Answer, answer_map, fails, gives}
+use Rattle.handlebars_base.specs.Bytes.{Text}
+use Rattle.handlebars_base.specs.Reasons.{Refusal}
+use Rattle.handlebars_base.specs.Scoped.{present_in}
+use Rattle.handlebars_scope.specs.Resolve.{found_along, found_prefix, found_within, then_at, value_at}
+use Rattle.handlebars_scope.proofs.Resolutions.{value_at-append}
+use Rattle.handlebars_layers.specs.Destination.{found_in_data}
+use Rattle.handlebars_layers.specs.declared.destination.FoundInData.{FoundInData}
+
+pub ok-data : (r : Result FoundInData AllocError) (a b : Answer (Option Data)) → IfOk r (λ found. found_in_data found ≡ a) → a ≡ b
+    → IfOk r (λ found. found_in_data found ≡ b)
+ok-data (Ok found) a b is same = is ∙ same
+ok-data (Err e) a b is same = is
+
+-- ---- values without paths
+
+pub present-along : (names : List Text) (a : Answer (Option Data)) → a ≡ answer_map present_in (answer_map (found_along names) a)
+present-along names (gives None) = refl
+present-along names (gives (Some d)) = refl
+present-along names (fails r) = refl
+
+pub present-within : (a : Answer (Option Data)) → a ≡ answer_map present_in (answer_map found_within a)
+present-within (gives None) = refl
+present-within (gives (Some d)) = refl
+present-within (fails r) = refl
+
+pub present-prefix : (base : List Text) (name : Text) (o : Option (ℕ × Data))
+    → gives (option_map (λ (hit : ℕ × Data). hit.1) o) ≡ answer_map present_in (gives (found_prefix base name o))
+present-prefix base name None = refl
+present-prefix base name (Some hit) = refl
+
+pub present-variable : (o : Option Data) → gives o ≡ answer_map present_in (gives (found_within o))
+present-variable None = refl
+present-variable (Some d) = refl
+
+-- ---- if the base is missing, or if its names fail, so do all of them
+
+pub data-nothing : (d : Data) (xs ys : List Text) → gives None ≡ value_at d xs → gives None ≡ value_at d (xs ++ ys)
+data-nothing d xs ys is = sym (value_at-append d xs ys ∙ ap (λ a. then_at a (λ e. value_at e ys)) (sym is))
+
+pub data-fails : (d : Data) (xs ys : List Text) (r : Refusal) → fails r ≡ value_at d xs → fails r ≡ value_at d (xs ++ ys)
+data-fails d xs ys r is = sym (value_at-append d xs ys ∙ ap (λ a. then_at a (λ e. value_at e ys)) (sym is))
