@@ -58,7 +58,8 @@ IsRouted (NoIndex name) d = Unit {0}
 
 -- a value of other data alone, without a path
 abbrev pub found_in_data : FoundInData → Answer (Option Data)
-found_in_data (in_data.Value v) = gives (Some (value_data v))
+found_in_data (in_data.Data v) = gives (Some (view v.now))
+found_in_data (in_data.Frame v) = gives (Some (value_data v))
 found_in_data in_data.Nothing = gives None
 found_in_data (in_data.NoIndex name) = fails_for (invalid_json_index (string_bytes name))
 

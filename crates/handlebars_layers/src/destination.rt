@@ -35,9 +35,11 @@ pub enum FrameValue<'r> {
 
 /// What a path leads to in other data than those of the frames. There the value has no route.
 #[derive(Drop)]
-pub enum FoundInData<'c> {
-    /// A value, of the data or of a frame.
-    Value(FrameValue<'c>),
+pub enum FoundInData<'s, 'd> {
+    /// A value of the data.
+    Data(&'d Json),
+    /// A value of a frame.
+    Frame(FrameValue<'s>),
     /// No value.
     Nothing,
     /// This name isn't an index, and it was looked up in an array.

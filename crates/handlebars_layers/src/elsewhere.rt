@@ -10,11 +10,10 @@ ghost use Rattle.handlebars_scope.specs.Resolve.{longest, names_of, navigate, re
 ghost use Rattle.handlebars_scope.specs.ResolutionView.{names_in, reached_of};
 ghost use Rattle.handlebars_layers.specs.Chain.{names_at};
 ghost use Rattle.handlebars_layers.specs.Destination.{found_in_data, frames_in, within_of};
-ghost use Rattle.handlebars_layers.specs.FrameValues.{value_data};
 ghost use Rattle.handlebars_layers.specs.Under.{under};
 
 use crate::descents::{along_names, walk_from};
-use crate::destination::{FoundInData, FrameValue, Route};
+use crate::destination::{FoundInData, Route};
 use crate::layer::Descent;
 use crate::lookup::{variable_at, within};
 use crate::made::path_of;
@@ -32,14 +31,14 @@ use std::alloc::{AllocError, Global};
 /// # Errors
 ///
 /// Fails if memory runs out.
-pub fn resolve_in<'c>(
+pub fn resolve_in<'s, 'd>(
     alloc: Global,
-    scopes: Scopes<'c, '_>,
-    changed: &'c Json,
+    scopes: Scopes<'s, '_>,
+    changed: &'d Json,
     recursive: bool,
-    path: &'c Path,
+    path: &'s Path,
     looked_up: &LookedUp,
-) -> Result<FoundInData<'c>, AllocError>
+) -> Result<FoundInData<'s, 'd>, AllocError>
     ensures { IfOk result (λ found. found_in_data found
         ≡ answer_map present_in (resolve recursive (frames_in scopes.entry) (reference_of path.now) (view changed.now))) }
 {
@@ -55,21 +54,25 @@ pub fn resolve_in<'c>(
             )
         }
         Path::Local((level, name, _)) => match variable_at(scopes, *level, name.as_str()) {
-            Some(value) => Ok(FoundInData::Value(value)),
+            Some(value) => Ok(FoundInData::Frame(value)),
             None => Ok(FoundInData::Nothing),
         },
     }
 }
 
-// Returns what segments lead to in these data.
-fn navigate_in<'c>(
+/// Returns what segments lead to in these data, with recursive lookup or without.
+///
+/// # Errors
+///
+/// Fails if memory runs out.
+pub fn navigate_in<'s, 'd>(
     alloc: Global,
-    scopes: Scopes<'c, '_>,
-    changed: &'c Json,
+    scopes: Scopes<'s, '_>,
+    changed: &'d Json,
     recursive: bool,
-    segments: &'c [PathSeg],
+    segments: &'s [PathSeg],
     looked_up: &LookedUp,
-) -> Result<FoundInData<'c>, AllocError>
+) -> Result<FoundInData<'s, 'd>, AllocError>
     ensures { IfOk result (λ found. found_in_data found
         ≡ answer_map present_in (navigate recursive (frames_in scopes.entry) (segments_of segments.now) (view changed.now))) }
 {
@@ -81,7 +84,7 @@ fn navigate_in<'c>(
             under_prefix(alloc, start, changed, name, looked_up)
         }
         Resolution::Within(value, rest) => match within(value, rest) {
-            Ok(Some(found)) => Ok(FoundInData::Value(found)),
+            Ok(Some(found)) => Ok(FoundInData::Frame(found)),
             Ok(None) => Ok(FoundInData::Nothing),
             Err(name) => Ok(FoundInData::NoIndex(String::from_str(alloc, name)?)),
         },
@@ -89,14 +92,14 @@ fn navigate_in<'c>(
 }
 
 // Returns what names lead to in these data, after the base path of the nearest frame.
-fn enter_from<'c>(
+fn enter_from<'s, 'd>(
     alloc: Global,
-    start: Scopes<'c, '_>,
-    changed: &'c Json,
-    bound: &'c [String],
-    rest: &'c [PathSeg],
+    start: Scopes<'s, '_>,
+    changed: &'d Json,
+    bound: &'s [String],
+    rest: &'s [PathSeg],
     looked_up: &LookedUp,
-) -> Result<FoundInData<'c>, AllocError>
+) -> Result<FoundInData<'s, 'd>, AllocError>
     ensures { IfOk result (λ found. found_in_data found ≡ value_at (view changed.now)
         (names_at (frames_in start.entry) ++ (names_in bound.now ++ names_of (segments_of rest.now)))) }
 {
@@ -107,7 +110,7 @@ fn enter_from<'c>(
         Reached::Value(node) => {
             let (reached, members) = members::enter(node, bound, rest);
             looked_up.add(members);
-            found(alloc, reached)
+            found(alloc, start, reached)
         }
         Reached::Nothing => Ok(FoundInData::Nothing),
         Reached::NoIndex(name) => Ok(FoundInData::NoIndex(String::from_str(alloc, name)?)),
@@ -115,19 +118,19 @@ fn enter_from<'c>(
 }
 
 // Returns what a name leads to in these data under the longest prefix of the base path of the nearest frame.
-fn under_prefix<'c>(
+fn under_prefix<'s, 'd>(
     alloc: Global,
-    start: Scopes<'c, '_>,
-    changed: &'c Json,
-    name: &'c String,
+    start: Scopes<'s, '_>,
+    changed: &'d Json,
+    name: &'s String,
     looked_up: &LookedUp,
-) -> Result<FoundInData<'c>, AllocError>
+) -> Result<FoundInData<'s, 'd>, AllocError>
     ensures { IfOk result (λ found. found_in_data found ≡ gives (option_map (λ hit. hit.1)
         (longest (view changed.now) (names_at (frames_in start.entry)) (string_bytes name.now)))) }
 {
     let base = base_names(alloc, start)?;
     match longest(changed, &base, name, looked_up) {
-        Some(value) => Ok(FoundInData::Value(FrameValue::Json(value))),
+        Some(value) => Ok(FoundInData::Data(value)),
         None => Ok(FoundInData::Nothing),
     }
 }
@@ -168,11 +171,15 @@ fn base_names(alloc: Global, start: Scopes<'_, '_>) -> Result<Vec<String>, Alloc
 }
 
 // Returns what names reached, with a copy of the name that isn't an index.
-fn found<'c>(alloc: Global, reached: Reached<'c, '_>) -> Result<FoundInData<'c>, AllocError>
+fn found<'s, 'd>(
+    alloc: Global,
+    _start: Scopes<'s, '_>,
+    reached: Reached<'d, '_>,
+) -> Result<FoundInData<'s, 'd>, AllocError>
     ensures { IfOk result (λ found. found_in_data found ≡ reached_of reached.entry) }
 {
     match reached {
-        Reached::Value(value) => Ok(FoundInData::Value(FrameValue::Json(value))),
+        Reached::Value(value) => Ok(FoundInData::Data(value)),
         Reached::Nothing => Ok(FoundInData::Nothing),
         Reached::NoIndex(name) => Ok(FoundInData::NoIndex(String::from_str(alloc, name)?)),
     }

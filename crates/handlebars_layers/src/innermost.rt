@@ -2,7 +2,7 @@
 
 ghost use Rattle.std.specs.Prelude.{◌≡◌, true};
 ghost use Rattle.std.specs.Coded.{Coded-set, coded_bool, coded_ℕ};
-ghost use Rattle.serde_json.specs.View.{view};
+ghost use Rattle.handlebars_scope.specs.Contexts.{data_of};
 ghost use Rattle.handlebars_scope.specs.ScopeView.{frames_of};
 ghost use Rattle.handlebars_layers.specs.Binding.{MayBind, MayBind-prop};
 ghost use Rattle.handlebars_layers.specs.Chain.{NodesAreThere, NodesAreThere-prop, frames, is_no_layer};
@@ -11,8 +11,8 @@ ghost use Rattle.handlebars_layers.specs.ScopeFrames.{layer_depth};
 
 use crate::layer::Layer;
 use crate::scopes::Scopes;
-use handlebars_base::json::value::Json;
 use handlebars_scope::block::BlockContext;
+use handlebars_scope::context::Context;
 use std::collections::VecDeque;
 
 /// The innermost layer of a run, with what is known of all its layers. The value of each layer is what the layer's names lead
@@ -26,25 +26,25 @@ pub struct Innermost<'r, 'a> {
     pub binds: bool,
     /// The layer of no frame, from which paths after `@root` lead.
     pub root: &'r Layer<'r, 'a>,
-    pub given: &'a Json,
+    pub given: &'a Context,
     pub ghost rooted: { is_no_layer (chain_of root.now) ≡ true } by { Coded-set coded_bool (is_no_layer (chain_of root.now)) true },
-    pub ghost lead: { NodesAreThere (view given.now) (chain_of nearest.now) } by { NodesAreThere-prop (view given.now) (chain_of nearest.now) },
+    pub ghost lead: { NodesAreThere (data_of given.now) (chain_of nearest.now) } by { NodesAreThere-prop (data_of given.now) (chain_of nearest.now) },
     pub ghost unbound: { MayBind binds (frames (chain_of nearest.now)) } by { MayBind-prop binds (frames (chain_of nearest.now)) },
     pub ghost deep: { depth ≡ layer_depth (chain_of nearest.now) } by { Coded-set coded_ℕ depth (layer_depth (chain_of nearest.now)) },
 }
 
 impl<'r, 'a> Innermost<'r, 'a> {
     ghost use Rattle.std.specs.Prelude.{◌≡◌, ◌+◌, IfSome, Some, true};
-    ghost use Rattle.serde_json.specs.View.{view};
+    ghost use Rattle.handlebars_scope.specs.Contexts.{data_of};
     ghost use Rattle.handlebars_layers.specs.Binding.{MayBind};
     ghost use Rattle.handlebars_layers.specs.Chain.{NodesAreThere, frames, is_no_layer, is_outside, outer_chain};
-    ghost use Rattle.handlebars_layers.specs.Destination.{frames_in};
+    ghost use Rattle.handlebars_layers.specs.Destination.{frames_in, given_in};
     ghost use Rattle.handlebars_layers.specs.LayerView.{chain_of};
 
     /// Creates the layers of a run that has entered none: the frames from outside. `binds` tells whether any of them may bind
     /// a name.
     pub fn outside(
-        given: &'a Json,
+        given: &'a Context,
         frames_layer: &'r Layer<'r, 'a>,
         root: &'r Layer<'r, 'a>,
         binds: bool,
@@ -69,13 +69,13 @@ impl<'r, 'a> Innermost<'r, 'a> {
     /// Returns the frames of the run.
     pub fn scopes(self) -> Scopes<'r, 'a>
         ensures frames { frames_in result ≡ frames (chain_of self.entry.nearest.now) }
-        ensures given { result.given ≡ self.entry.given }
+        ensures given { given_in result ≡ data_of self.entry.given.now }
     {
         Scopes {
             nearest: self.nearest,
             skipped: 0,
             root: self.root,
-            given: self.given,
+            given: self.given.data(),
             binds: self.binds,
         }
     }
@@ -83,7 +83,7 @@ impl<'r, 'a> Innermost<'r, 'a> {
     /// Returns the layers of the run once it has entered this one, or `None` if there are 2^64 - 1 layers already.
     pub fn enter(self, layer: &'r Layer<'r, 'a>) -> Option<Innermost<'r, 'a>>
         requires outer { outer_chain (chain_of layer.now) ≡ Some (chain_of self.nearest.now) }
-        requires lead { NodesAreThere (view self.given.now) (chain_of layer.now) }
+        requires lead { NodesAreThere (data_of self.given.now) (chain_of layer.now) }
         ensures nearest { IfSome result (λ i. i.nearest ≡ layer.entry) }
         ensures given { IfSome result (λ i. i.given ≡ self.entry.given) }
         ensures root { IfSome result (λ i. i.root ≡ self.entry.root) }
