@@ -53,16 +53,6 @@ pub rises-last : (fs : List OfFrame) (f : OfFrame) → 0 < f.depth → AllBefore
     → Rises 1 (depths_of (fs ++ f ∷ []))
 rises-last fs f layer before rising = rises-then 1 fs f (omega arith) before rising
 
-before-append : (fs : List OfFrame) (f : OfFrame) (k : ℕ) → AllBefore f.depth fs → f.depth < k → AllBefore k (fs ++ f ∷ [])
-before-append [] f k before less = (less, tt)
-before-append (g ∷ gs) f k before less =
-    let lesser : g.depth < f.depth = before.0 in
-    (omega arith, before-append gs f k before.1 less)
-
-last-before : (fs : List OfFrame) (f : OfFrame) (k : ℕ) → AllBefore k (fs ++ f ∷ []) → f.depth < k
-last-before [] f k before = before.0
-last-before (g ∷ gs) f k before = last-before gs f k before.1
-
 -- ---- what frames have
 
 pub none-from : (fs : List OfFrame) (k d : ℕ) → AllBefore k fs → k ≤ d → partials_at fs d ≡ nothing_at
@@ -189,10 +179,3 @@ module _ (es fs : List OfFrame) (f : OfFrame) (split : es ≡ fs ++ f ∷ []) (r
   -- if it is deeper, the last entry decides nothing
   pub kept-rest : (k : ℕ) → k < f.depth → kept_to k fs ≡ kept_to k es
   kept-rest k deep = sym (ap (kept_to k) split ∙ kept-prefix fs f k deep)
-
-  -- the entries that are kept, if the last one is of another frame
-  pub before-other : (k : ℕ) → AllBefore (suc k) es → f.depth ≢ k → AllBefore k es
-  before-other k before differ =
-      let less : f.depth < suc k =
-      last-before fs f (suc k) (subst (λ (gs : List OfFrame). AllBefore (suc k) gs) split before) in
-      subst (λ (gs : List OfFrame). AllBefore k gs) (sym split) (before-append fs f k before-split (omega arith))

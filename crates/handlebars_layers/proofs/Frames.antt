@@ -7,7 +7,7 @@ use Rattle.serde_json.specs.Data.{Data}
 use Rattle.handlebars_base.specs.Bytes.{Text}
 use Rattle.handlebars_base.specs.Optional.{◌>>=◌, with_or}
 use Rattle.handlebars_base.specs.Path.{Segment}
-use Rattle.handlebars_scope.specs.Resolve.{along, frame_up, in_block_value, is_from_root, names_of, or_else, resolution_in, resolution_of_bound, resolution_of_name, single_plain_name, unbound_resolution, under_prefix, ups_in, variable_at}
+use Rattle.handlebars_scope.specs.Resolve.{along, frame_up, in_block_value, is_from_root, names_of, or_else, resolution_in, resolution_of_bound, resolution_of_name, unbound_resolution, ups_in, variable_at}
 use Rattle.handlebars_scope.specs.Scopes.{Bound, Frame}
 use Rattle.handlebars_semantics.specs.State.{nearest_variables}
 use Rattle.handlebars_layers.specs.Chain.{names_at}
@@ -191,29 +191,6 @@ pub resolution-path : (recursive : Bool) (fs : List Frame) (segments : List Segm
     → path_resolution recursive fs segments ≡ nearest_resolution recursive fs segments
 resolution-path recursive [] segments is = refl
 resolution-path recursive (f ∷ fs) segments is = rw (← is) refl
-
--- ---- along the base path, or under its prefixes
-
-pub path-under : (fs : List Frame) (segments : List Segment) (name : Text) → Some name ≡ single_plain_name segments
-    → true ≡ is_some_frame fs → under_prefix (names_at fs) name ≡ path_resolution true fs segments
-path-under [] segments name is some = absurd (cc)
-path-under (f ∷ fs) segments name is some = rw (← is) refl
-
-pub path-none : (recursive : Bool) (fs : List Frame) (segments : List Segment) → None ≡ single_plain_name segments
-    → along (names_at fs ++ names_of segments) ≡ path_resolution recursive fs segments
-path-none recursive [] segments is = refl
-path-none true (f ∷ fs) segments is = rw (← is) refl
-path-none false (f ∷ fs) segments is = refl
-
-pub path-along : (fs : List Frame) (segments : List Segment)
-    → along (names_at fs ++ names_of segments) ≡ path_resolution false fs segments
-path-along [] segments = refl
-path-along (f ∷ fs) segments = refl
-
-pub path-nowhere : (recursive : Bool) (fs : List Frame) (segments : List Segment) → false ≡ is_some_frame fs
-    → along (names_at fs ++ names_of segments) ≡ path_resolution recursive fs segments
-path-nowhere recursive [] segments is = refl
-path-nowhere recursive (f ∷ fs) segments is = absurd (cc)
 
 -- ---- bound names
 

@@ -34,7 +34,7 @@ pub struct Innermost<'r, 'a> {
 }
 
 impl<'r, 'a> Innermost<'r, 'a> {
-    ghost use Rattle.std.specs.Prelude.{◌≡◌, ◌+◌, IfSome, Some, true};
+    ghost use Rattle.std.specs.Prelude.{◌≡◌, ◌+◌, ◌≤◌, ◌^◌, IfSome, IsNone, Some, true};
     ghost use Rattle.handlebars_scope.specs.Contexts.{data_of};
     ghost use Rattle.handlebars_layers.specs.Binding.{MayBind};
     ghost use Rattle.handlebars_layers.specs.Chain.{NodesAreThere, frames, is_no_layer, is_outside, outer_chain};
@@ -88,6 +88,7 @@ impl<'r, 'a> Innermost<'r, 'a> {
         ensures given { IfSome result (λ i. i.given ≡ self.entry.given) }
         ensures root { IfSome result (λ i. i.root ≡ self.entry.root) }
         ensures depth { IfSome result (λ i. i.depth ≡ self.entry.depth + 1) }
+        ensures full { IsNone result → 2 ^ 64 ≤ self.entry.depth + 1 }
     {
         let depth = self.depth.checked_add(1)?;
         Some(Innermost {
