@@ -118,6 +118,14 @@ is_outside (node_layer d start n names kind outer) = false
 is_outside (value_layer d kind outer) = false
 is_outside (frame_layer f outer) = false
 
+-- the frames from outside that are around a layer, nearest first
+abbrev pub frames_outside : Chain → List Frame
+frames_outside no_layer = []
+frames_outside (outside fs) = fs
+frames_outside (node_layer d start n names kind outer) = frames_outside outer
+frames_outside (value_layer d kind outer) = frames_outside outer
+frames_outside (frame_layer f outer) = frames_outside outer
+
 -- the layer around this one, if a run entered this one
 abbrev pub outer_chain : Chain → Option Chain
 outer_chain no_layer = None

@@ -1,11 +1,11 @@
 //! What the nearest frame has: its base, what it binds names to, and its variables.
 
-ghost use Rattle.std.specs.Prelude.{◌≡◌, Bool, None, option_map, slice_get};
+ghost use Rattle.std.specs.Prelude.{◌≡◌, Bool, None, option_map};
 ghost use Rattle.serde_json.specs.View.{view};
 ghost use Rattle.handlebars_scope.specs.Resolve.{value_at};
 ghost use Rattle.handlebars_scope.specs.ResolutionView.{reached_of};
 ghost use Rattle.handlebars_scope.specs.Scopes.{nothing_at};
-ghost use Rattle.handlebars_scope.specs.ScopeView.{frame_of, frames_of};
+ghost use Rattle.handlebars_scope.specs.ScopeView.{frame_of};
 ghost use Rattle.handlebars_helpers.specs.Iterations.{iteration_key, iteration_variables};
 ghost use Rattle.handlebars_semantics.specs.Inclusion.{with_bound};
 ghost use Rattle.handlebars_layers.specs.Chain.{block_bound, value_bound, iteration};
@@ -15,13 +15,14 @@ ghost use Rattle.handlebars_layers.specs.FrameValues.{hash_values, value_data};
 
 use crate::destination::{Bound, FrameValue};
 use crate::layer::{BlockNames, Layer, LayerKind};
+use crate::outside::outside_frame;
 use crate::scopes::Scopes;
 use handlebars_base::json::value::Json;
 use handlebars_scope::block::{BlockContext, BlockParamHolder};
 use handlebars_scope::context::looked_up::LookedUp;
 use handlebars_scope::context::members::along_names;
 use handlebars_scope::context::reached::Reached;
-use std::collections::{BTreeMap, VecDeque};
+use std::collections::BTreeMap;
 
 impl<'r, 'a> Scopes<'r, 'a> {
     ghost use Rattle.std.specs.Prelude.{◌≡◌, [], option_map};
@@ -177,13 +178,6 @@ impl<'r> LayerKind<'r> {
 }
 
 // ---- frames that a caller or a helper made
-
-// Returns the nearest of the frames from outside that are left where so many are skipped.
-pub fn outside_frame(frames: &VecDeque<BlockContext>, skipped: usize) -> Option<&BlockContext>
-    ensures { option_map (λ b. frame_of b.now) result ≡ slice_get (frames_of frames.now.items) skipped }
-{
-    frames.get(skipped)
-}
 
 // Returns the value of the data that the base path of a frame leads to.
 fn base_in<'r, 'a>(

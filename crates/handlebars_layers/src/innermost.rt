@@ -1,15 +1,16 @@
 //! The layers of a run, innermost first, and how deep they are.
 
-ghost use Rattle.std.specs.Prelude.{◌≡◌, true};
+ghost use Rattle.std.specs.Prelude.{◌≡◌, length, true};
 ghost use Rattle.std.specs.Coded.{Coded-set, coded_bool, coded_ℕ};
 ghost use Rattle.handlebars_scope.specs.Contexts.{data_of};
 ghost use Rattle.handlebars_scope.specs.ScopeView.{frames_of};
 ghost use Rattle.handlebars_layers.specs.Binding.{MayBind, MayBind-prop};
-ghost use Rattle.handlebars_layers.specs.Chain.{NodesAreThere, NodesAreThere-prop, frames, is_no_layer};
+ghost use Rattle.handlebars_layers.specs.Chain.{NodesAreThere, NodesAreThere-prop, frames, frames_outside, is_no_layer};
 ghost use Rattle.handlebars_layers.specs.LayerView.{chain_of};
 ghost use Rattle.handlebars_layers.specs.ScopeFrames.{layer_depth};
 
 use crate::layer::Layer;
+use crate::outside::count_outside;
 use crate::scopes::Scopes;
 use handlebars_scope::block::BlockContext;
 use handlebars_scope::context::Context;
@@ -22,6 +23,8 @@ pub struct Innermost<'r, 'a> {
     pub nearest: &'r Layer<'r, 'a>,
     /// How many layers there are from the frames from outside to this one.
     pub depth: usize,
+    /// How many frames from outside there are.
+    pub outside: usize,
     /// Whether any frame may bind a name.
     pub binds: bool,
     /// The layer of no frame, from which paths after `@root` lead.
@@ -31,6 +34,7 @@ pub struct Innermost<'r, 'a> {
     pub ghost lead: { NodesAreThere (data_of given.now) (chain_of nearest.now) } by { NodesAreThere-prop (data_of given.now) (chain_of nearest.now) },
     pub ghost unbound: { MayBind binds (frames (chain_of nearest.now)) } by { MayBind-prop binds (frames (chain_of nearest.now)) },
     pub ghost deep: { depth ≡ layer_depth (chain_of nearest.now) } by { Coded-set coded_ℕ depth (layer_depth (chain_of nearest.now)) },
+    pub ghost counted: { outside ≡ length (frames_outside (chain_of nearest.now)) } by { Coded-set coded_ℕ outside (length (frames_outside (chain_of nearest.now))) },
 }
 
 impl<'r, 'a> Innermost<'r, 'a> {
@@ -60,6 +64,7 @@ impl<'r, 'a> Innermost<'r, 'a> {
         Innermost {
             nearest: frames_layer,
             depth: 0,
+            outside: count_outside(frames_layer),
             binds,
             root,
             given,
@@ -88,12 +93,14 @@ impl<'r, 'a> Innermost<'r, 'a> {
         ensures given { IfSome result (λ i. i.given ≡ self.entry.given) }
         ensures root { IfSome result (λ i. i.root ≡ self.entry.root) }
         ensures depth { IfSome result (λ i. i.depth ≡ self.entry.depth + 1) }
+        ensures outside { IfSome result (λ i. i.outside ≡ self.entry.outside) }
         ensures full { IsNone result → 2 ^ 64 ≤ self.entry.depth + 1 }
     {
         let depth = self.depth.checked_add(1)?;
         Some(Innermost {
             nearest: layer,
             depth,
+            outside: self.outside,
             binds: self.binds_in(layer),
             root: self.root,
             given: self.given,

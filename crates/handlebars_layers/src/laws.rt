@@ -1,13 +1,13 @@
 //! Laws of layers: they are the scope frames of the language.
 
-ghost use Rattle.std.specs.Prelude.{ℕ, List, Option};
+ghost use Rattle.std.specs.Prelude.{List, Option};
 ghost use Rattle.serde_json.specs.Data.{Data};
 ghost use Rattle.handlebars_base.specs.Bytes.{Text};
 ghost use Rattle.handlebars_template.specs.Tree.{Binding, Tree};
 ghost use Rattle.handlebars_scope.specs.Scopes.{Base, Frame};
 ghost use Rattle.handlebars_helpers.specs.Iterations.{Iteration};
-ghost use Rattle.handlebars_layers.specs.ScopeFrames.{EntersWithNone, FindsByDepth, IgnorePartials, ByDepth, SetsByDepth, VariablesIgnorePartials};
-ghost use Rattle.handlebars_layers.specs.Chain.{Chain, LayerKind};
+ghost use Rattle.handlebars_layers.specs.ScopeFrames.{ByDepth, EntersFrame, EntersWithNone, FindsByDepth, IgnorePartials, LeavesOuter, SetsByDepth, VariablesIgnorePartials};
+ghost use Rattle.handlebars_layers.specs.Chain.{Chain};
 ghost use Rattle.handlebars_layers.specs.Layering.{IsInInclusionFrame, IsInWithFrame, IteratesInItsFrame, IteratesInTheNextFrame};
 
 /// The layer of an iteration is the scope frame of `each`, whether it is set up for the first iteration or for a later one.
@@ -34,10 +34,11 @@ pub fn partials_are_no_scope()
     ensures variables { (at : ByDepth) (c : Chain) → VariablesIgnorePartials at c }
 {}
 
-/// Partials are found, set and left by the depth of layers.
+/// Partials are found, set and left by the depth of layers. A layer that is left leaves the frames around it.
 pub fn partials_go_by_depth()
     ensures found { (at : ByDepth) (c : Chain) → FindsByDepth at c }
     ensures set { (new old : ByDepth) (c : Chain) (name : Text) (t : Tree) → SetsByDepth new old c name t }
-    ensures entered { (new old : ByDepth) (c : Chain) (v : Data) (start : Chain) (n : ℕ) (names : List Text) (kind : LayerKind)
-        → EntersWithNone new old c v start n names kind }
+    ensures entered { (new old : ByDepth) (c : Chain) → EntersWithNone new old c }
+    ensures frame { (new old : ByDepth) (c : Chain) (f : Frame) → EntersFrame new old c f }
+    ensures outer { (at : ByDepth) (c outer : Chain) → LeavesOuter at c outer }
 {}

@@ -1,8 +1,9 @@
 //! Layers: a scope frame each, and the layers around it.
 
-use crate::destination::FrameValue;
+use crate::destination::{FrameValue, Route};
 use handlebars_base::json::path::PathSeg;
 use handlebars_base::json::value::Json;
+use handlebars_helpers::iteration::Iteration;
 use handlebars_scope::block::BlockContext;
 use std::collections::{BTreeMap, VecDeque};
 
@@ -74,4 +75,87 @@ pub enum BlockNames<'r> {
     Unnamed,
     One(&'r str),
     Two(&'r str, &'r str),
+}
+
+impl<'r, 'a> Layer<'r, 'a> {
+    ghost use Rattle.std.specs.Prelude.{◌≡◌, ◌++◌, true};
+    ghost use Rattle.serde_json.specs.Data.{Data};
+    ghost use Rattle.serde_json.specs.View.{view};
+    ghost use Rattle.handlebars_scope.specs.Resolve.{value_at};
+    ghost use Rattle.handlebars_scope.specs.ScopeView.{frame_of, frames_of};
+    ghost use Rattle.handlebars_layers.specs.Chain.{IsValue, NodesAreThere, frame_layer, is_no_layer, kind_names, no_layer, node_layer, outside, value_layer};
+    ghost use Rattle.handlebars_layers.specs.Destination.{given_in, route_names};
+    ghost use Rattle.handlebars_layers.specs.LayerView.{chain_of, descent_names, kind_view};
+
+    /// Creates the layer of no frame.
+    pub fn root() -> Layer<'r, 'a>
+        ensures { chain_of result ≡ no_layer }
+    {
+        Layer::Root
+    }
+
+    /// Creates the layer of the frames that are there when a rendering begins, nearest first.
+    pub fn outside(frames: &'r VecDeque<BlockContext>) -> Layer<'r, 'a>
+        ensures { chain_of result ≡ outside (frames_of frames.now.items) }
+    {
+        Layer::Outside { frames }
+    }
+
+    /// Creates a layer at a value of the data, or at a member of it for an iteration. The route is that of the value.
+    pub fn at_node(
+        node: &'a Json,
+        route: &'r Route<'r, 'a>,
+        kind: LayerKind<'r>,
+        outer: &'r Layer<'r, 'a>,
+    ) -> Layer<'r, 'a>
+        ensures chain { chain_of result ≡ node_layer (view node.now) (chain_of route.now.start.nearest.now) route.now.start.skipped
+            (descent_names route.now.descent) (kind_view kind.entry) (chain_of outer.now) }
+        ensures there { (d : Data) → given_in route.now.start ≡ d
+            → IsValue (value_at d (route_names route.now ++ kind_names (kind_view kind.entry))) (view node.now)
+            → NodesAreThere d (chain_of outer.now) → NodesAreThere d (chain_of result) }
+    {
+        Layer::At {
+            node,
+            start: route.start.nearest,
+            skipped: route.start.skipped,
+            descent: &route.descent,
+            kind,
+            outer,
+        }
+    }
+
+    /// Creates a layer at a value that has no path.
+    pub fn at_value(value: &'r Json, kind: LayerKind<'r>, outer: &'r Layer<'r, 'a>) -> Layer<'r, 'a>
+        ensures chain { chain_of result ≡ value_layer (view value.now) (kind_view kind.entry) (chain_of outer.now) }
+        ensures there { (d : Data) → NodesAreThere d (chain_of outer.now) → NodesAreThere d (chain_of result) }
+    {
+        Layer::Value { value, kind, outer }
+    }
+
+    /// Creates the layer of a frame that a user-defined helper made.
+    pub fn of_frame(frame: &'r BlockContext, outer: &'r Layer<'r, 'a>) -> Layer<'r, 'a>
+        ensures chain { chain_of result ≡ frame_layer (frame_of frame.now) (chain_of outer.now) }
+        ensures there { (d : Data) → NodesAreThere d (chain_of outer.now) → NodesAreThere d (chain_of result) }
+    {
+        Layer::Frame { frame, outer }
+    }
+}
+
+impl<'r> LayerKind<'r> {
+    ghost use Rattle.std.specs.Prelude.{◌≡◌};
+    ghost use Rattle.handlebars_helpers.specs.View.{iteration_view};
+    ghost use Rattle.handlebars_layers.specs.LayerView.{kind_view, names_seen};
+    ghost use Rattle.handlebars_layers.specs.Layering.{kind_of_iteration};
+
+    /// Creates the kind of an iteration's layer, which binds these names.
+    pub fn iteration(iteration: Iteration<'r>, names: &'r BlockNames<'r>) -> LayerKind<'r>
+        ensures { kind_view result ≡ kind_of_iteration (names_seen names.now) (iteration_view iteration.entry) }
+    {
+        LayerKind::Iteration {
+            index: iteration.index,
+            key: iteration.key,
+            last: iteration.last,
+            names,
+        }
+    }
 }

@@ -2,7 +2,7 @@
 //! made only where they are asked for.
 #![tactic(auto)]
 
-mod binding;
+pub mod binding;
 mod descents;
 pub mod destination;
 pub mod elsewhere;
@@ -12,6 +12,7 @@ pub mod laws;
 pub mod layer;
 pub mod lookup;
 pub mod made;
+mod outside;
 pub mod partials;
 mod prefixes;
 mod resolution;

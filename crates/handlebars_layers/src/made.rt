@@ -11,8 +11,8 @@ ghost use Rattle.handlebars_layers.specs.LayerView.{chain_of, descent_names, kin
 ghost use Rattle.handlebars_layers.specs.Destination.{route_names};
 
 use crate::destination::{FrameValue, Route};
-use crate::frame::outside_frame;
 use crate::layer::{Descent, Layer, LayerKind};
+use crate::outside::outside_frame;
 use handlebars_base::json::path::PathSeg;
 use handlebars_base::json::value::Json;
 use itoa::Buffer;

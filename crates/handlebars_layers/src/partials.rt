@@ -3,6 +3,8 @@
 ghost use Rattle.std.specs.Prelude.{◌≡◌, ◌<◌, ◌≤◌, ℕ, OnErr, OnOk, option_map, string_bytes, take};
 ghost use Rattle.handlebars_scope.specs.ScopeView.{frames_of};
 ghost use Rattle.handlebars_semantics.specs.State.{partial_in};
+ghost use Rattle.handlebars_layers.specs.Chain.{frames_outside};
+ghost use Rattle.handlebars_layers.specs.LayerView.{chain_of};
 ghost use Rattle.handlebars_layers.specs.ScopeFrames.{further_frames};
 ghost use Rattle.handlebars_template.specs.TreeView.{tree_view};
 ghost use Rattle.handlebars_scope.specs.Scopes.{nothing_at, put_at};
@@ -10,7 +12,9 @@ ghost use Rattle.handlebars_layers.specs.PartialsByDepth.{ends_at, kept_to, part
 ghost use Rattle.handlebars_layers.specs.NearestPartial.{nearest_partial};
 ghost use Rattle.handlebars_layers.specs.RisingDepths.{Rises, Rises-prop, depths_of};
 
-use crate::frame::outside_frame;
+use crate::innermost::Innermost;
+use crate::layer::Layer;
+use crate::outside::{frames_outside, outside_frame};
 use handlebars_scope::block::BlockContext;
 use handlebars_template::template::Template;
 use std::alloc::{AllocError, Global};
@@ -90,8 +94,11 @@ pub struct Partials {
 }
 
 impl Partials {
-    ghost use Rattle.std.specs.Prelude.{◌<◌, suc};
-    ghost use Rattle.handlebars_scope.specs.Resolve.{or_else};
+    ghost use Rattle.std.specs.Prelude.{◌∷◌, [], suc};
+    ghost use Rattle.handlebars_scope.specs.Scopes.{Frame};
+    ghost use Rattle.handlebars_semantics.specs.State.{nearest_as, with_partial};
+    ghost use Rattle.handlebars_layers.specs.Chain.{frame_layer, frames};
+    ghost use Rattle.handlebars_layers.specs.ScopeFrames.{IsEntered, scope_frames, scope_frames_outside, set_partials};
     ghost use Rattle.handlebars_layers.specs.PartialsView.{partials_of};
     ghost use Rattle.handlebars_layers.specs.RisingDepths.{AllBefore};
 
@@ -126,25 +133,77 @@ impl Partials {
         ground
     }
 
-    /// Drops the partials of all frames that are deeper than this depth.
-    pub fn keep_to(&mut self, depth: usize)
+    /// Prepares for a layer that is entered from this innermost one: it will have no partial, and nor will a layer within it. All
+    /// frames that are there keep theirs.
+    pub fn enter(&mut self, innermost: Innermost<'_, '_>)
+        ensures { IsEntered (partials_of self.new) (partials_of self.old) (chain_of innermost.entry.nearest.now) }
+    {
+        self.keep_to(innermost.depth);
+    }
+
+    /// Prepares for a layer that is entered from this innermost one, of a frame that has these partials. All frames that are there
+    /// keep theirs.
+    ///
+    /// # Errors
+    ///
+    /// Fails if memory runs out, or if there are 2^64 - 1 layers already. Then the layer will have no partial.
+    pub fn enter_frame(
+        &mut self,
+        innermost: Innermost<'_, '_>,
+        partials: BTreeMap<String, Rc<Template>>,
+    ) -> Result<(), AllocError>
+        ensures around { scope_frames (partials_of self.new) (chain_of innermost.entry.nearest.now)
+            ≡ scope_frames (partials_of self.old) (chain_of innermost.entry.nearest.now) }
+        ensures frame { OnOk result ((f : Frame)
+            → scope_frames (partials_of self.new) (frame_layer f (chain_of innermost.entry.nearest.now))
+            ≡ set_partials (partials_named partials) f ∷ scope_frames (partials_of self.old) (chain_of innermost.entry.nearest.now)) }
+    {
+        self.drop_deeper(innermost.depth);
+        if partials.is_empty() {
+            return Ok(());
+        }
+        match innermost.depth.checked_add(1) {
+            Some(depth) => self.push(depth, partials),
+            None => Err(AllocError),
+        }
+    }
+
+    /// Sets the partial of a name in the innermost frame. Nothing is set if there is no frame.
+    ///
+    /// # Errors
+    ///
+    /// Fails if memory runs out. Then all frames have the partials that they had.
+    pub fn put(
+        &mut self,
+        innermost: Innermost<'_, '_>,
+        name: &str,
+        template: Rc<Template>,
+    ) -> Result<(), AllocError>
+        ensures ok { OnOk result (scope_frames (partials_of self.new) (chain_of innermost.entry.nearest.now)
+            ≡ nearest_as (with_partial name.now (tree_view template.value))
+            (scope_frames (partials_of self.old) (chain_of innermost.entry.nearest.now))) }
+        ensures err { OnErr result (scope_frames (partials_of self.new) (chain_of innermost.entry.nearest.now)
+            ≡ scope_frames (partials_of self.old) (chain_of innermost.entry.nearest.now)) }
+        ensures unframed { frames (chain_of innermost.entry.nearest.now) ≡ []
+            → (d : ℕ) → partials_of self.new d ≡ partials_of self.old d }
+    {
+        if innermost.depth == 0 && innermost.outside == 0 {
+            return Ok(());
+        }
+        self.set(innermost.depth, name, template)
+    }
+
+    // Drops the partials of all frames that are deeper than this depth.
+    fn keep_to(&mut self, depth: usize)
         ensures outer { (d : ℕ) → d ≤ depth → partials_of self.new d ≡ partials_of self.old d }
         ensures deeper { (d : ℕ) → depth < d → partials_of self.new d ≡ nothing_at }
     {
         self.drop_deeper(depth);
     }
 
-    /// Sets the partial of a name in the frame at this depth, and drops the partials of all deeper frames.
-    ///
-    /// # Errors
-    ///
-    /// Fails if memory runs out. The partials of deeper frames are dropped all the same, and all others are as before.
-    pub fn set(
-        &mut self,
-        depth: usize,
-        name: &str,
-        template: Rc<Template>,
-    ) -> Result<(), AllocError>
+    // Sets the partial of a name in the frame at this depth, and drops the partials of all deeper frames. They are dropped also if
+    // memory runs out, and all others are as before then.
+    fn set(&mut self, depth: usize, name: &str, template: Rc<Template>) -> Result<(), AllocError>
         ensures outer { (d : ℕ) → d < depth → partials_of self.new d ≡ partials_of self.old d }
         ensures own { OnOk result (partials_of self.new depth
             ≡ put_at name.now (tree_view template.value) (partials_of self.old depth)) }
@@ -203,6 +262,22 @@ impl Partials {
         Ok(())
     }
 
+    // Adds the entry of a layer, with these partials. No other entry is of this layer or of a deeper one.
+    fn push(
+        &mut self,
+        depth: usize,
+        by_name: BTreeMap<String, Rc<Template>>,
+    ) -> Result<(), AllocError>
+        requires layer { 0 < depth }
+        requires deepest { AllBefore depth self.old.all.items }
+        ensures ground { self.new.ground ≡ self.old.ground }
+        ensures outer { (d : ℕ) → d < depth → partials_at self.new.all.items d ≡ partials_at self.old.all.items d }
+        ensures own { OnOk result (partials_at self.new.all.items depth ≡ partials_named by_name) }
+    {
+        self.all.push(OfFrame { depth, by_name })?;
+        Ok(())
+    }
+
     // Returns whether the last entry is of the layer at this depth.
     fn has_last(&self, depth: usize) -> bool
         ensures { result ≡ ends_at depth self.now.all.items }
@@ -213,31 +288,39 @@ impl Partials {
         }
     }
 
-    /// Returns the partial of a name that is set nearest to the frame at this depth: in the frame itself or around it.
-    pub fn get(&self, depth: usize, name: &str) -> Option<&Rc<Template>>
-        ensures { option_map (λ t. tree_view t.now.value) result ≡ nearest_partial (partials_of self.now) depth name.now }
+    /// Returns the partial of a name as it is found in the innermost frame: the one that is set nearest to it.
+    pub fn find<'p>(&'p self, innermost: Innermost<'p, 'p>, name: &str) -> Option<&'p Rc<Template>>
+        ensures { option_map (λ t. tree_view t.now.value) result
+            ≡ partial_in (scope_frames (partials_of self.now) (chain_of innermost.entry.nearest.now)) name.now }
     {
-        match self.get_in_layers(depth, name) {
+        match self.get_in_layers(innermost.depth, name) {
             Some(template) => Some(template),
-            None => get_named(&self.ground, name),
+            None => self.get_outside(innermost, name),
         }
     }
 
-    /// Returns the partial of a name as it is found in a frame at this depth: the one that is set nearest to it, or else that of a
-    /// frame from outside. The nearest of these frames is the ground, and has no partials of its own.
-    pub fn find<'p>(
+    // Returns the partial of a name that a frame from outside has, the nearest one first. Mostly there is only one, and it is not
+    // walked to.
+    fn get_outside<'p>(
         &'p self,
-        depth: usize,
-        frames: &'p VecDeque<BlockContext>,
+        innermost: Innermost<'p, 'p>,
         name: &str,
     ) -> Option<&'p Rc<Template>>
-        ensures { option_map (λ t. tree_view t.now.value) result ≡ or_else
-            (nearest_partial (partials_of self.now) depth name.now)
-            (partial_in (further_frames (frames_of frames.now.items)) name.now) }
+        ensures { option_map (λ t. tree_view t.now.value) result ≡ partial_in
+            (scope_frames_outside (partials_of self.now) (frames_outside (chain_of innermost.entry.nearest.now))) name.now }
     {
-        match self.get(depth, name) {
+        if innermost.outside == 0 {
+            return None;
+        }
+        match get_named(&self.ground, name) {
             Some(template) => Some(template),
-            None => in_further(frames, name),
+            None => {
+                if innermost.outside > 1 {
+                    further_partial(innermost.nearest, name)
+                } else {
+                    None
+                }
+            }
         }
     }
 
@@ -279,6 +362,17 @@ impl Partials {
             left = rest;
         }
         0
+    }
+}
+
+// Returns the partial of a name that a frame from outside has, the nearest one first. The nearest of all is left out.
+fn further_partial<'p>(layer: &'p Layer<'p, 'p>, name: &str) -> Option<&'p Rc<Template>>
+    ensures { option_map (λ t. tree_view t.now.value) result
+        ≡ partial_in (further_frames (frames_outside (chain_of layer.now))) name.now }
+{
+    match frames_outside(layer) {
+        Some(frames) => in_further(frames, name),
+        None => None,
     }
 }
 

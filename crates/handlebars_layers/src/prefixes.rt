@@ -15,8 +15,8 @@ ghost use Rattle.handlebars_layers.specs.Under.{beyond, from_end, hit_at, member
 
 use crate::descents::{along_descent, along_names, walk_from};
 use crate::destination::{Destination, Route};
-use crate::frame::outside_frame;
 use crate::layer::{Descent, Layer, LayerKind};
+use crate::outside::outside_frame;
 use crate::scopes::Scopes;
 use handlebars_base::json::value::Json;
 use handlebars_scope::block::BlockContext;
