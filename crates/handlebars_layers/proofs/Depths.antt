@@ -169,6 +169,10 @@ module _ (es fs : List OfFrame) (f : OfFrame) (split : es ≡ fs ++ f ∷ []) (r
   pub before-split : AllBefore f.depth fs
   before-split = before-last 1 fs f rises-split
 
+  -- no entry is of the ground
+  pub layer-split : 0 < f.depth
+  layer-split = let low : 1 ≤ f.depth = low-last 1 fs f rises-split in omega arith
+
   pub split-at : partials_at es f.depth ≡ partials_in f
   split-at = ap (λ (gs : List OfFrame). partials_at gs f.depth) split ∙ last-at fs f before-split
 

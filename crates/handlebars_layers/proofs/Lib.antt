@@ -12,3 +12,7 @@ pub mod ScopeFrames
 pub mod Depths
 pub mod Nearest
 pub mod Settings
+pub mod Finding
+pub mod Innermost
+pub mod Members
+pub mod Entering

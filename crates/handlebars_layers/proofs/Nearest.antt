@@ -5,19 +5,19 @@ use Rattle.handlebars_base.specs.Bytes.{Text}
 use Rattle.handlebars_template.specs.Tree.{Tree}
 use Rattle.handlebars_scope.specs.Resolve.{or_else}
 use Rattle.handlebars_layers.specs.NearestPartial.{nearest_partial}
-use Rattle.handlebars_layers.specs.PartialsByDepth.{partials_at, partials_in, partials_named}
+use Rattle.handlebars_layers.specs.PartialsByDepth.{partials_at, partials_in}
 use Rattle.handlebars_layers.specs.PartialsView.{partials_of}
 use Rattle.handlebars_layers.specs.RisingDepths.{Rises, depths_of}
 use Rattle.handlebars_layers.specs.declared.partials.OfFrame.{OfFrame}
 use Rattle.handlebars_layers.specs.declared.partials.Partials.{Partials}
-use Rattle.handlebars_layers.proofs.Depths.{before-split, none-below, none-from, other-at, split-at}
+use Rattle.handlebars_layers.proofs.Depths.{before-split, layer-split, none-from, other-at, split-at}
 
 -- ---- partials by depth and name
 
 -- if the frames from this depth on have the same under the name
 nearest-same : (some others : ℕ → Text → Option Tree) (k : ℕ) (name : Text)
     → ((d : ℕ) → d ≤ k → some d name ≡ others d name) → nearest_partial some k name ≡ nearest_partial others k name
-nearest-same some others zero name same = same 0 (omega arith)
+nearest-same some others zero name same = refl
 nearest-same some others (suc k) name same =
     ap (λ own. or_else own (nearest_partial some k name)) (same (suc k) (omega arith))
     ∙ ap (or_else (others (suc k) name)) (nearest-same some others k name (λ d near. same d (omega arith)))
@@ -37,10 +37,10 @@ nearest-from partials (suc k) d name near none = elim (cases_lt k d) [
       ∙ nearest-from partials k d name further none
 ]
 
-nearest-own : (partials : ℕ → Text → Option Tree) (d : ℕ) (name : Text) (t : Tree) → partials d name ≡ Some t
+nearest-own : (partials : ℕ → Text → Option Tree) (d : ℕ) (name : Text) (t : Tree) → 0 < d → partials d name ≡ Some t
     → nearest_partial partials d name ≡ Some t
-nearest-own partials zero name t is = is
-nearest-own partials (suc d) name t is = ap (λ own. or_else own (nearest_partial partials d name)) is
+nearest-own partials zero name t layer is = absurd (omega arith)
+nearest-own partials (suc d) name t layer is = ap (λ own. or_else own (nearest_partial partials d name)) is
 
 -- ---- no entries
 
@@ -74,7 +74,7 @@ module _ (es fs : List OfFrame) (f : OfFrame) (split : es ≡ fs ++ f ∷ []) (r
       let none : (e : ℕ) → f.depth < e → partials_at es e name ≡ None = λ e deeper.
       other-named e name (λ same. omega arith) ∙ none-named e name (omega arith) in
       nearest-from (partials_at es) k f.depth name near none
-      ∙ nearest-own (partials_at es) f.depth name t (last-named name ∙ is)
+      ∙ nearest-own (partials_at es) f.depth name t (layer-split es fs f split rising) (last-named name ∙ is)
 
   -- The last entry lacks the partial.
   pub nearest-past : (k : ℕ) (name : Text) → partials_in f name ≡ None
@@ -96,19 +96,10 @@ module _ (es fs : List OfFrame) (f : OfFrame) (split : es ≡ fs ++ f ∷ []) (r
       other-named d name (λ e. omega arith) in
       sym (nearest-same (partials_at es) (partials_at fs) k name same)
 
--- ---- the ground
+-- ---- the layers of the struct
 
-or_else-assoc : {X : Type 0} (a b c : Option X) → or_else a (or_else b c) ≡ or_else (or_else a b) c
-or_else-assoc None b c = refl
-or_else-assoc (Some x) b c = refl
-
--- no layer has the depth 0, so the ground is asked last
-pub nearest-ground : (p : Partials) (k : ℕ) (name : Text)
-    → nearest_partial (partials_of p) k name ≡ or_else (nearest_partial (partials_at p.all.items) k name) (partials_named p.ground name)
-nearest-ground p zero name =
-    sym (ap (λ (none : Text → Option Tree). or_else (none name) (partials_named p.ground name))
-    (none-below 1 p.all.items 0 p.rising (omega arith)))
-nearest-ground p (suc k) name =
-    ap (or_else (partials_at p.all.items (suc k) name)) (nearest-ground p k name)
-    ∙ or_else-assoc (partials_at p.all.items (suc k) name) (nearest_partial (partials_at p.all.items) k name)
-    (partials_named p.ground name)
+-- no layer has the depth 0, so the ground isn't asked
+pub nearest-layers : (p : Partials) (k : ℕ) (name : Text)
+    → nearest_partial (partials_at p.all.items) k name ≡ nearest_partial (partials_of p) k name
+nearest-layers p zero name = refl
+nearest-layers p (suc k) name = ap (or_else (partials_at p.all.items (suc k) name)) (nearest-layers p k name)

@@ -1,4 +1,4 @@
--- ByDepth by depth, and what doesn't depend on them.
+-- Partials by depth, and what doesn't depend on them.
 use Rattle.std.proofs.Common.{◌≡◌, ◌≤◌, ◌++◌, ℕ, zero, suc, arith, Bool, true, false, List, [], ◌∷◌, Option, Some, None, map, refl, sym, ap, ◌∙◌}
 use Rattle.std.specs.Prelude.{option_map, slice_get}
 use Rattle.serde_json.specs.Data.{Data}
@@ -9,10 +9,10 @@ use Rattle.handlebars_template.specs.Tree.{Tree}
 use Rattle.handlebars_scope.specs.Resolve.{Resolution, after_ups, along, bound_resolution, found_by, found_within, frame_up, is_from_root, names_of, or_else, resolution_in, resolution_of, resolution_of_bound, resolution_of_name, resolve, unbound_resolution, ups_in, variable_at}
 use Rattle.handlebars_base.specs.Answers.{gives}
 use Rattle.handlebars_scope.specs.Scopes.{Base, Frame, at_path, at_value, empty_frame, frame_at, nothing_at, put_at}
-use Rattle.handlebars_semantics.specs.State.{nearest_as, nearest_variables, partial_in, with_partial}
-use Rattle.handlebars_layers.specs.ScopeFrames.{EntersWithNone, FindsByDepth, IgnorePartials, IsNothingAt, ByDepth, SetsByDepth, VariablesIgnorePartials, scope_frames, layer_depth, further, further_frames, set_partials}
+use Rattle.handlebars_semantics.specs.State.{nearest_as, nearest_variables, outer_frames, partial_in, with_partial}
+use Rattle.handlebars_layers.specs.ScopeFrames.{ByDepth, EntersFrame, EntersWithNone, FindsByDepth, IgnorePartials, LeavesOuter, SetsByDepth, VariablesIgnorePartials, layer_depth, scope_frames, scope_frames_outside, set_partials}
 use Rattle.handlebars_layers.specs.NearestPartial.{nearest_partial}
-use Rattle.handlebars_layers.specs.Chain.{Chain, LayerKind, frame_layer, frames, partial_layer, iteration_layer, names_from, with_layer, kind_bound, no_layer, node_layer, outside, kind_frame, kind_names, value_layer}
+use Rattle.handlebars_layers.specs.Chain.{Chain, LayerKind, frame_layer, frames, frames_outside, partial_layer, iteration_layer, names_from, with_layer, kind_bound, no_layer, node_layer, outside, kind_frame, kind_names, value_layer}
 
 -- ---- frames that differ in their partials alone
 
@@ -109,40 +109,40 @@ or_else-assoc : {X : Type 0} (a b c : Option X) → or_else a (or_else b c) ≡ 
 or_else-assoc None b c = refl
 or_else-assoc (Some x) b c = refl
 
-found-outside : (fs : List Frame) (partial : Text → Option Tree) (name : Text) → IsNothingAt fs partial
-    → partial_in (nearest_as (set_partials partial) fs) name ≡ or_else (partial name) (partial_in (further_frames fs) name)
-found-outside [] partial name is = sym (ap (λ (none : Text → Option Tree). or_else (none name) None) is)
-found-outside (f ∷ fs) partial name is = refl
+-- in a layer around which the partial is found by depth
+finds-around : (at : ByDepth) (outer : Chain) (name : Text)
+    → partial_in (scope_frames at outer) name
+    ≡ or_else (nearest_partial at (layer_depth outer) name) (partial_in (scope_frames_outside at (frames_outside outer)) name)
+    → or_else (at (suc (layer_depth outer)) name) (partial_in (scope_frames at outer) name)
+    ≡ or_else (nearest_partial at (suc (layer_depth outer)) name) (partial_in (scope_frames_outside at (frames_outside outer)) name)
+finds-around at outer name found =
+    ap (or_else (at (suc (layer_depth outer)) name)) found
+    ∙ or_else-assoc (at (suc (layer_depth outer)) name) (nearest_partial at (layer_depth outer) name)
+    (partial_in (scope_frames_outside at (frames_outside outer)) name)
 
 pub finds-by-depth : (at : ByDepth) (c : Chain) → FindsByDepth at c
-finds-by-depth at no_layer = λ ground name. sym (ap (λ (none : Text → Option Tree). or_else (none name) None) ground)
-finds-by-depth at (outside fs) = λ ground name. found-outside fs (at 0) name ground
-finds-by-depth at (node_layer d start n names kind outer) = λ ground name.
-    ap (or_else (at (suc (layer_depth outer)) name)) (finds-by-depth at outer ground name)
-    ∙ or_else-assoc (at (suc (layer_depth outer)) name) (nearest_partial at (layer_depth outer) name) (partial_in (further outer) name)
-finds-by-depth at (value_layer d kind outer) = λ ground name.
-    ap (or_else (at (suc (layer_depth outer)) name)) (finds-by-depth at outer ground name)
-    ∙ or_else-assoc (at (suc (layer_depth outer)) name) (nearest_partial at (layer_depth outer) name) (partial_in (further outer) name)
-finds-by-depth at (frame_layer f outer) = λ ground name.
-    ap (or_else (at (suc (layer_depth outer)) name)) (finds-by-depth at outer ground name)
-    ∙ or_else-assoc (at (suc (layer_depth outer)) name) (nearest_partial at (layer_depth outer) name) (partial_in (further outer) name)
+finds-by-depth at no_layer = λ name. refl
+finds-by-depth at (outside fs) = λ name. refl
+finds-by-depth at (node_layer d start n names kind outer) = λ name. finds-around at outer name (finds-by-depth at outer name)
+finds-by-depth at (value_layer d kind outer) = λ name. finds-around at outer name (finds-by-depth at outer name)
+finds-by-depth at (frame_layer f outer) = λ name. finds-around at outer name (finds-by-depth at outer name)
 
 -- ---- a partial is set
 
-blocks-descent : (new old : ByDepth) (c : Chain) → ((d : ℕ) → d ≤ layer_depth c → new d ≡ old d) → scope_frames new c ≡ scope_frames old c
-blocks-descent new old no_layer same = refl
-blocks-descent new old (outside fs) same = ap (λ partial. nearest_as (set_partials partial) fs) (same 0 (omega arith))
-blocks-descent new old (node_layer v start n names kind outer) same =
+pub scope_frames-unchanged : (new old : ByDepth) (c : Chain) → ((d : ℕ) → d ≤ layer_depth c → new d ≡ old d) → scope_frames new c ≡ scope_frames old c
+scope_frames-unchanged new old no_layer same = refl
+scope_frames-unchanged new old (outside fs) same = ap (λ partial. nearest_as (set_partials partial) fs) (same 0 (omega arith))
+scope_frames-unchanged new old (node_layer v start n names kind outer) same =
     let here = same (suc (layer_depth outer)) (omega arith) in
-    let around = blocks-descent new old outer (λ d less. same d (omega arith)) in
+    let around = scope_frames-unchanged new old outer (λ d less. same d (omega arith)) in
     λ i. set_partials (here i) (kind_frame (at_path (names_from start n (names ++ kind_names kind))) kind (frames outer)) ∷ around i
-blocks-descent new old (value_layer v kind outer) same =
+scope_frames-unchanged new old (value_layer v kind outer) same =
     let here = same (suc (layer_depth outer)) (omega arith) in
-    let around = blocks-descent new old outer (λ d less. same d (omega arith)) in
+    let around = scope_frames-unchanged new old outer (λ d less. same d (omega arith)) in
     λ i. set_partials (here i) (kind_frame (at_value v) kind (frames outer)) ∷ around i
-blocks-descent new old (frame_layer f outer) same =
+scope_frames-unchanged new old (frame_layer f outer) same =
     let here = same (suc (layer_depth outer)) (omega arith) in
-    let around = blocks-descent new old outer (λ d less. same d (omega arith)) in
+    let around = scope_frames-unchanged new old outer (λ d less. same d (omega arith)) in
     λ i. set_partials (here i) f ∷ around i
 
 set-outside : (fs : List Frame) (new old : Text → Option Tree) (name : Text) (t : Tree) → new ≡ put_at name t old
@@ -154,13 +154,13 @@ pub sets-by-depth : (new old : ByDepth) (c : Chain) (name : Text) (t : Tree) →
 sets-by-depth new old no_layer name t = λ same here_is. refl
 sets-by-depth new old (outside fs) name t = λ same here_is. set-outside fs (new 0) (old 0) name t here_is
 sets-by-depth new old (node_layer v start n names kind outer) name t = λ same here_is.
-    let around = blocks-descent new old outer (λ d less. same d (omega arith)) in
+    let around = scope_frames-unchanged new old outer (λ d less. same d (omega arith)) in
     λ i. set_partials (here_is i) (kind_frame (at_path (names_from start n (names ++ kind_names kind))) kind (frames outer)) ∷ around i
 sets-by-depth new old (value_layer v kind outer) name t = λ same here_is.
-    let around = blocks-descent new old outer (λ d less. same d (omega arith)) in
+    let around = scope_frames-unchanged new old outer (λ d less. same d (omega arith)) in
     λ i. set_partials (here_is i) (kind_frame (at_value v) kind (frames outer)) ∷ around i
 sets-by-depth new old (frame_layer f outer) name t = λ same here_is.
-    let around = blocks-descent new old outer (λ d less. same d (omega arith)) in
+    let around = scope_frames-unchanged new old outer (λ d less. same d (omega arith)) in
     λ i. set_partials (here_is i) f ∷ around i
 
 -- ---- a layer is entered
@@ -174,13 +174,31 @@ kind-variables base (partial_layer hs) at c =
     let e = variables-ignore-partials at c in
     λ i. record (frame_at base empty_frame) { bound = kind_bound (partial_layer hs) base; variable = sym e i }
 
-pub enters-with-none : (new old : ByDepth) (c : Chain) (v : Data) (start : Chain) (n : ℕ) (names : List Text) (kind : LayerKind)
-    → EntersWithNone new old c v start n names kind
-enters-with-none new old c v start n names kind = λ same none.
-    let around = blocks-descent new old c same in
-    let path = at_path (names_from start n (names ++ kind_names kind)) in
-    let at_names = kind-variables path kind old c in
-    let at_data = kind-variables (at_value v) kind old c in (
-      (λ i. set_partials (none i) (kind_frame path kind (frames c)) ∷ around i) ∙ (λ i. at_names i ∷ scope_frames old c),
-      (λ i. set_partials (none i) (kind_frame (at_value v) kind (frames c)) ∷ around i) ∙ (λ i. at_data i ∷ scope_frames old c),
-    )
+pub enters-with-none : (new old : ByDepth) (c : Chain) → EntersWithNone new old c
+enters-with-none new old c = λ same none.
+    let around = scope_frames-unchanged new old c same in
+    record {
+      around = around;
+      node = λ v start n names kind.
+          let path = at_path (names_from start n (names ++ kind_names kind)) in
+          let own = kind-variables path kind old c in
+          (λ i. set_partials (none i) (kind_frame path kind (frames c)) ∷ around i) ∙ (λ i. own i ∷ scope_frames old c);
+      value = λ v kind.
+          let own = kind-variables (at_value v) kind old c in
+          (λ i. set_partials (none i) (kind_frame (at_value v) kind (frames c)) ∷ around i) ∙ (λ i. own i ∷ scope_frames old c);
+      made = λ f i. set_partials (none i) f ∷ around i;
+    }
+
+pub enters-frame : (new old : ByDepth) (c : Chain) (f : Frame) → EntersFrame new old c f
+enters-frame new old c f = λ same.
+    let around = scope_frames-unchanged new old c same in
+    λ i. set_partials (new (suc (layer_depth c))) f ∷ around i
+
+-- ---- a layer is left
+
+pub leaves-outer : (at : ByDepth) (c around : Chain) → LeavesOuter at c around
+leaves-outer at no_layer around = λ is. absurd (cc)
+leaves-outer at (outside fs) around = λ is. absurd (cc)
+leaves-outer at (node_layer d start n names kind outer) around = λ is. let same : outer ≡ around = cc in ap (scope_frames at) same
+leaves-outer at (value_layer d kind outer) around = λ is. let same : outer ≡ around = cc in ap (scope_frames at) same
+leaves-outer at (frame_layer f outer) around = λ is. let same : outer ≡ around = cc in ap (scope_frames at) same

@@ -8,8 +8,10 @@ pub mod Destination
 pub mod Under
 pub mod Hits
 pub mod Layering
+pub mod Members
 pub mod NearestPartial
 pub mod RisingDepths
 pub mod PartialsByDepth
 pub mod PartialsView
 pub mod ScopeFrames
+pub mod Entering

@@ -1,11 +1,12 @@
 //! Laws of layers: they are the scope frames of the language.
 
-ghost use Rattle.std.specs.Prelude.{List, Option};
+ghost use Rattle.std.specs.Prelude.{ℕ, List, Option};
 ghost use Rattle.serde_json.specs.Data.{Data};
 ghost use Rattle.handlebars_base.specs.Bytes.{Text};
 ghost use Rattle.handlebars_template.specs.Tree.{Binding, Tree};
 ghost use Rattle.handlebars_scope.specs.Scopes.{Base, Frame};
 ghost use Rattle.handlebars_helpers.specs.Iterations.{Iteration};
+ghost use Rattle.handlebars_layers.specs.Entering.{EntersInclusion, EntersIterations, EntersNextIteration, EntersWith};
 ghost use Rattle.handlebars_layers.specs.ScopeFrames.{ByDepth, EntersFrame, EntersWithNone, FindsByDepth, IgnorePartials, LeavesOuter, SetsByDepth, VariablesIgnorePartials};
 ghost use Rattle.handlebars_layers.specs.Chain.{Chain};
 ghost use Rattle.handlebars_layers.specs.Layering.{IsInInclusionFrame, IsInWithFrame, IteratesInItsFrame, IteratesInTheNextFrame};
@@ -41,4 +42,15 @@ pub fn partials_go_by_depth()
     ensures entered { (new old : ByDepth) (c : Chain) → EntersWithNone new old c }
     ensures frame { (new old : ByDepth) (c : Chain) (f : Frame) → EntersFrame new old c f }
     ensures outer { (at : ByDepth) (c outer : Chain) → LeavesOuter at c outer }
+{}
+
+/// `each`, `with` and partial calls enter their scope frames as layers.
+pub fn constructs_enter_layers()
+    ensures iterations { (new old : ByDepth) (c start : Chain) (n : ℕ) (names : List Text) (binding : Binding) (t : Iteration)
+        → EntersIterations new old c start n names binding t }
+    ensures next { (at : ByDepth) (c start : Chain) (n : ℕ) (names : List Text) (binding : Binding) (before t : Iteration)
+        → EntersNextIteration at c start n names binding before t }
+    ensures with { (new old : ByDepth) (c : Chain) (v : Data) (start : Chain) (n : ℕ) (names : List Text) (binding : Binding)
+        → EntersWith new old c v start n names binding }
+    ensures inclusion { (new old : ByDepth) (c : Chain) (d : Data) (hs : List (Text × Data)) → EntersInclusion new old c d hs }
 {}

@@ -8,6 +8,7 @@ pub mod destination;
 pub mod elsewhere;
 mod frame;
 pub mod innermost;
+pub mod iterations;
 pub mod laws;
 pub mod layer;
 pub mod lookup;

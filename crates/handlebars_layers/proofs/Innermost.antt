@@ -1,0 +1,66 @@
+-- Partials that are set in the innermost frame, and layers that are entered from it.
+use Rattle.std.proofs.Common.{◌≡◌, inl, inr, ◌<◌, ◌≤◌, ℕ, suc, arith, length, List, [], ◌∷◌, refl, sym, ap, ◌∙◌}
+use Rattle.std.proofs.lemmas.Bool.{cases_lt}
+use Rattle.handlebars_base.specs.Bytes.{Text}
+use Rattle.handlebars_template.specs.Tree.{Tree}
+use Rattle.handlebars_scope.specs.Scopes.{Frame, nothing_at, put_at}
+use Rattle.handlebars_semantics.specs.State.{nearest_as, with_partial}
+use Rattle.handlebars_layers.specs.Chain.{Chain, frame_layer, frames, frames_outside, no_layer, node_layer, outside, value_layer}
+use Rattle.handlebars_layers.specs.ScopeFrames.{ByDepth, IsEntered, layer_depth, scope_frames, set_partials}
+use Rattle.handlebars_layers.proofs.ScopeFrames.{enters-frame, enters-with-none, scope_frames-unchanged, sets-by-depth}
+
+-- ---- no frame
+
+pub no-frames : (at : ByDepth) (c : Chain) (depth n : ℕ) → depth ≡ layer_depth c → n ≡ length (frames_outside c) → depth < 1 → n < 1
+    → scope_frames at c ≡ []
+no-frames at no_layer depth n deep count top none = refl
+no-frames at (outside []) depth n deep count top none = refl
+no-frames at (outside (f ∷ fs)) depth n deep count top none = absurd (omega arith)
+no-frames at (node_layer d start m names kind outer) depth n deep count top none = absurd (omega arith)
+no-frames at (value_layer d kind outer) depth n deep count top none = absurd (omega arith)
+no-frames at (frame_layer f outer) depth n deep count top none = absurd (omega arith)
+
+pub none-deep : (c : Chain) → frames c ≡ [] → layer_depth c < 1
+none-deep no_layer none = omega arith
+none-deep (outside fs) none = omega arith
+none-deep (node_layer d start n names kind outer) none = absurd (cc)
+none-deep (value_layer d kind outer) none = absurd (cc)
+none-deep (frame_layer f outer) none = absurd (cc)
+
+pub none-outside : (c : Chain) → frames c ≡ [] → length (frames_outside c) < 1
+none-outside no_layer none = omega arith
+none-outside (outside fs) none = let count : length fs ≡ 0 = ap length none in omega arith
+none-outside (node_layer d start n names kind outer) none = absurd (cc)
+none-outside (value_layer d kind outer) none = absurd (cc)
+none-outside (frame_layer f outer) none = absurd (cc)
+
+-- ---- by the depth of the innermost frame
+
+module _ (new old : ByDepth) (c : Chain) (depth : ℕ) (deep : depth ≡ layer_depth c) where
+  pub frames-set : (name : Text) (t : Tree) → ((d : ℕ) → d < depth → new d ≡ old d) → new depth ≡ put_at name t (old depth)
+      → scope_frames new c ≡ nearest_as (with_partial name t) (scope_frames old c)
+  frames-set name t outer own =
+      sets-by-depth new old c name t (λ d less. outer d (omega arith))
+      (ap new (sym deep) ∙ own ∙ ap (λ k. put_at name t (old k)) deep)
+
+  pub frames-not-set : ((d : ℕ) → d < depth → new d ≡ old d) → new depth ≡ old depth → scope_frames new c ≡ scope_frames old c
+  frames-not-set outer own = scope_frames-unchanged new old c (λ d near. elim (cases_lt d depth) [
+    | inl less ↦ outer d less
+    | inr far ↦
+        let here : d ≡ depth = omega arith in
+        ap new here ∙ own ∙ sym (ap old here)
+  ])
+
+  pub frames-around : ((d : ℕ) → d ≤ depth → new d ≡ old d) → scope_frames new c ≡ scope_frames old c
+  frames-around outer = scope_frames-unchanged new old c (λ d near. outer d (omega arith))
+
+  pub entered-with-none : ((d : ℕ) → d ≤ depth → new d ≡ old d) → ((d : ℕ) → depth < d → new d ≡ nothing_at) → IsEntered new old c
+  entered-with-none outer deeper =
+      enters-with-none new old c (λ d near. outer d (omega arith)) (deeper (suc (layer_depth c)) (omega arith))
+
+  pub entered-frame : (partials : Text → _) (within : ℕ) → within ≡ suc depth → ((d : ℕ) → d ≤ depth → new d ≡ old d)
+      → new within ≡ partials → (f : Frame) → scope_frames new (frame_layer f c) ≡ set_partials partials f ∷ scope_frames old c
+  entered-frame partials within next outer own f =
+      let here : suc (layer_depth c) ≡ within = omega arith in
+      enters-frame new old c f (λ d near. outer d (omega arith))
+      ∙ ap (λ some. set_partials some f ∷ scope_frames old c) (ap new here ∙ own)
