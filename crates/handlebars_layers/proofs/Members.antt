@@ -20,10 +20,10 @@ use Rattle.handlebars_scope.proofs.IndexNames.{index_of-decimal}
 use Rattle.handlebars_scope.proofs.Resolutions.{value_at-on}
 use Rattle.handlebars_helpers.specs.Iterations.{Iteration, item_count, item_iterations, iteration_name, iterations_of, member_count, member_iterations}
 use Rattle.handlebars_helpers.specs.IterationsLeft.{iterations_with}
-use Rattle.handlebars_layers.specs.Chain.{BlockNames, Chain, IsValue, NodesAreThere, frames_from, names_at, names_from, node_layer, with_layer}
+use Rattle.handlebars_layers.specs.Chain.{BlockNames, Chain, IsValue, NodesAreThere, names_from, node_layer, with_layer}
 use Rattle.handlebars_layers.specs.Layering.{kind_of_iteration}
 use Rattle.handlebars_layers.specs.Members.{AllKeyed, AllMembers, IsMember, has_keys}
-use Rattle.handlebars_layers.proofs.Nodes.{leads, leads-of}
+use Rattle.handlebars_layers.proofs.Nodes.{layer-there, leads, leads-of}
 
 -- ---- keys
 
@@ -75,11 +75,11 @@ pub all-items : (vs : List Value) (n : ℕ) → n ≡ length vs → n < 2 ^ 64
 all-items vs n count small =
     let ds = items_view vs in
     let all : item_count ds ≡ length vs = item_count-items_view vs in
-    items-from ds (item_count ds) 0 ds (omega arith) (λ j. refl)
+    items-from ds (item_count ds) 0 ds (omega arith) (λ j. let same : 0 + j ≡ j = omega arith in ap (λ m. get_item m ds) same)
 
 -- ---- members
 
-Entry : Type 0
+abbrev Entry : Type 0
 Entry = String Global × Value
 
 -- a key that is above another one is not found at it
@@ -115,7 +115,7 @@ members-from all done (e ∷ es) n i split sorted = (
   members-from all (done ++ e ∷ []) es n (i + 1) (split ∙ sym (append_assoc done (e ∷ []) es)) sorted,
 )
 
-pub all-members : (es : List Entry) → IsStrictlySortedBy string_cmp (keys_of es)
+pub all-members : (es : List (String Global × Value)) → IsStrictlySortedBy string_cmp (keys_of es)
     → AllMembers (object (members_view es)) (iterations_of (object (members_view es)))
 all-members es sorted = members-from es [] es (member_count (members_view es)) 0 refl sorted
 
@@ -146,16 +146,10 @@ module _ (d v : Data) (start outer : Chain) (n : ℕ) (names : List Text) (block
     (is : IsValue (value_at d (names_from start n names)) v) (started : NodesAreThere d start) (around : NodesAreThere d outer) where
   pub iteration-there : (t : Iteration) → IsMember v t
       → NodesAreThere d (node_layer t.member start n names (kind_of_iteration block t) outer)
-  iteration-there t leads_on = (
-    subst (λ all. IsValue (value_at d all) t.member) (append_assoc (names_at (frames_from start n)) names (iteration_name t ∷ []))
-        (member-there d v (names_from start n names) t is leads_on),
-    started,
-    around,
-  )
+  iteration-there t leads_on =
+      layer-there d t.member start outer n names (kind_of_iteration block t) (member-there d v (names_from start n names) t is leads_on)
+      started around
 
   pub with-there : NodesAreThere d (node_layer v start n names (with_layer block) outer)
-  with-there = (
-    subst (λ all. IsValue (value_at d (names_at (frames_from start n) ++ all)) v) (sym (append-nil names)) is,
-    started,
-    around,
-  )
+  with-there =
+      layer-there d v start outer n names (with_layer block) (value-there d v (names_from start n names) is) started around

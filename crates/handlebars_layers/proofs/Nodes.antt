@@ -1,5 +1,5 @@
 -- The values of layers are what their names lead to.
-use Rattle.std.proofs.Common.{◌≡◌, ℕ, true, List, [], ◌++◌, Option, Some, None, refl, sym, ap, ◌∙◌, subst}
+use Rattle.std.proofs.Common.{◌≡◌, ℕ, true, List, [], ◌++◌, Option, Some, None, append_assoc, refl, sym, ap, ◌∙◌, subst}
 use Rattle.serde_json.specs.Data.{Data}
 use Rattle.handlebars_base.specs.Answers.{Answer, answer_map, gives, fails}
 use Rattle.handlebars_base.specs.Bytes.{Text}
@@ -7,7 +7,7 @@ use Rattle.handlebars_base.specs.Reasons.{Refusal}
 use Rattle.handlebars_base.specs.Scoped.{missing}
 use Rattle.handlebars_scope.specs.Resolve.{along, found_along, found_by, then_at, value_at}
 use Rattle.handlebars_scope.proofs.Resolutions.{value_at-append, value_at-on}
-use Rattle.handlebars_layers.specs.Chain.{Chain, LayerKind, NodesAreThere, IsValue, frame_layer, frames, frames_from, is_no_layer, kind_names, names_at, no_layer, node_layer, outside, value_layer}
+use Rattle.handlebars_layers.specs.Chain.{Chain, LayerKind, NodesAreThere, IsValue, frame_layer, frames, frames_from, is_no_layer, kind_names, names_at, names_from, no_layer, node_layer, outside, value_layer}
 
 pub leads : (a : Answer (Option Data)) (v : Data) → IsValue a v → a ≡ gives (Some v)
 leads (gives (Some e)) v h = ap (λ x. gives (Some x)) h
@@ -62,3 +62,13 @@ module _ (d : Data) (c : Chain) (v : Data) (start : Chain) (n : ℕ) (names : Li
 
   pub node-start : NodesAreThere d c → NodesAreThere d start
   node-start lead = (subst (NodesAreThere d) is lead).1
+
+-- A layer is where the names of a route lead, and then the name of the member, if it is that of an iteration.
+pub layer-there : (d v : Data) (start outer : Chain) (n : ℕ) (names : List Text) (kind : LayerKind)
+    → IsValue (value_at d (names_from start n names ++ kind_names kind)) v → NodesAreThere d start → NodesAreThere d outer
+    → NodesAreThere d (node_layer v start n names kind outer)
+layer-there d v start outer n names kind is started around = (
+  subst (λ all. IsValue (value_at d all) v) (append_assoc (names_at (frames_from start n)) names (kind_names kind)) is,
+  started,
+  around,
+)
