@@ -13,6 +13,6 @@ pub mod Depths
 pub mod Nearest
 pub mod Settings
 pub mod Finding
-pub mod Innermost
+pub mod InnermostFrame
 pub mod Members
 pub mod Entering

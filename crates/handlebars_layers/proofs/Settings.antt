@@ -2,9 +2,17 @@
 -- layer, and otherwise in an entry after it.
 use Rattle.std.proofs.Common.{◌≡◌, ◌<◌, ◌≤◌, ℕ, zero, suc, ◌-◌, ◌==◌, arith, Bool, true, false, if◌then◌else◌, get_or, slice_set, length, take, List, [], ◌∷◌, ◌++◌, Result, Ok, Err, OnErr, refl, sym, ap, ◌∙◌, subst}
 use Rattle.std.proofs.lemmas.Bool.Decides.{nat_tests}
-use Rattle.std.specs.Prelude.{Some, slice_get}
+use Rattle.std.specs.Prelude.{Some, String, option_map, slice_get, string_bytes}
+use Rattle.std.specs.BTreeMap.{BTreeMap, is_at}
+use Rattle.std.specs.Cmp.Lexicographic.{slice_cmp}
+use Rattle.std.specs.Map.{lookup}
+use Rattle.std.specs.Ordering.{nat_cmp}
+use Rattle.std.specs.declared.alloc.Global.{Global}
+use Rattle.std.specs.declared.rc.Rc.{Rc}
 use Rattle.handlebars_base.specs.Bytes.{Text}
 use Rattle.handlebars_template.specs.Tree.{Tree}
+use Rattle.handlebars_template.specs.TreeView.{tree_view}
+use Rattle.handlebars_template.specs.declared.template.tree.Template.{Template}
 use Rattle.handlebars_scope.specs.Scopes.{nothing_at, put_at}
 use Rattle.handlebars_layers.specs.PartialsByDepth.{ends_at, kept_to, partials_at, partials_in, partials_named}
 use Rattle.handlebars_layers.specs.PartialsView.{partials_of}
@@ -38,6 +46,18 @@ module _ (new old : Partials) (depth : ℕ) (ground : new.ground ≡ old.ground)
 
   pub deepest-kept : AllBefore (suc depth) new.all.items
   deepest-kept = subst (λ (fs : List OfFrame). AllBefore (suc depth) fs) (sym all) (before-kept old.all.items depth)
+
+-- an entry of a layer comes after those that are kept
+pub outer-pushed : (new kept : Partials) (within : ℕ) → new.ground ≡ kept.ground
+    → ((d : ℕ) → d < within → partials_at new.all.items d ≡ partials_at kept.all.items d)
+    → (d : ℕ) → d < within → partials_of new d ≡ partials_of kept d
+outer-pushed new kept within ground outer zero less = ap partials_named ground
+outer-pushed new kept within ground outer (suc d) less = outer (suc d) less
+
+-- a map without entries has no partial
+pub none-named : (by_name : BTreeMap (String Global) (Rc Template Global)) → by_name.entries ≡ [] → partials_named by_name ≡ nothing_at
+none-named by_name empty = λ i name.
+    ap (λ es. option_map (λ t. tree_view t.value) (lookup (is_at (λ k. slice_cmp nat_cmp name (string_bytes k))) es)) empty i
 
 -- ---- whether the last entry is of the layer
 

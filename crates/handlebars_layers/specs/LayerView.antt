@@ -1,16 +1,13 @@
 -- What the code's layers represent.
 use Rattle.std.specs.Prelude.{◌++◌, ◌∷◌, [], List, Option, None, Some, String, option_map, string_bytes}
 use Rattle.std.specs.declared.alloc.Global.{Global}
-use Rattle.std.specs.declared.vec.deque.VecDeque.{VecDeque}
 use denote.Ref.{Bor}
 use Rattle.serde_json.specs.View.{view}
 use Rattle.handlebars_base.specs.Bytes.{Text}
 use Rattle.handlebars_base.specs.PathView.{segments_of}
 use Rattle.handlebars_scope.specs.Resolve.{names_of}
 use Rattle.handlebars_scope.specs.ResolutionView.{names_in}
-use Rattle.handlebars_scope.specs.Scopes.{Frame}
 use Rattle.handlebars_scope.specs.ScopeView.{frame_of, frames_of}
-use Rattle.handlebars_scope.specs.declared.block.BlockContext.{BlockContext}
 use Rattle.handlebars_layers.specs.Chain as chain
 use Rattle.handlebars_layers.specs.Chain.{Chain, frames_from}
 use Rattle.handlebars_layers.specs.FrameValues.{hash_values}
@@ -76,8 +73,3 @@ layer_chain (Layer-F.Frame frame outer) = chain.frame_layer (frame_of frame.now)
 
 abbrev pub chain_of : Layer → Chain
 chain_of = fold-Layer _ layer_chain
-
--- the frames from outside, if there are such frames
-abbrev pub outside_seen : Option (Bor (VecDeque BlockContext Global)) → List Frame
-outside_seen None = []
-outside_seen (Some frames) = frames_of frames.now.items

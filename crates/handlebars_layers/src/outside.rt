@@ -1,9 +1,10 @@
 //! The frames from outside around a layer.
 
-ghost use Rattle.std.specs.Prelude.{◌≡◌, length, option_map, slice_get};
+ghost use Rattle.std.specs.Prelude.{◌≡◌, [], length, option_map, slice_get};
+ghost use Rattle.handlebars_base.specs.Optional.{with_or};
 ghost use Rattle.handlebars_scope.specs.ScopeView.{frame_of, frames_of};
 ghost use Rattle.handlebars_layers.specs.Chain.{frames_outside};
-ghost use Rattle.handlebars_layers.specs.LayerView.{chain_of, outside_seen};
+ghost use Rattle.handlebars_layers.specs.LayerView.{chain_of};
 
 use crate::layer::Layer;
 use handlebars_scope::block::BlockContext;
@@ -11,7 +12,7 @@ use std::collections::VecDeque;
 
 /// Returns the frames from outside that are around a layer, or `None` if the outermost layer is that of no frame.
 pub fn frames_outside<'r>(layer: &'r Layer<'r, '_>) -> Option<&'r VecDeque<BlockContext>>
-    ensures { outside_seen result ≡ frames_outside (chain_of layer.now) }
+    ensures { with_or result (λ frames. frames_of frames.now.items) [] ≡ frames_outside (chain_of layer.now) }
 {
     let mut here = layer;
     loop {
@@ -26,7 +27,7 @@ pub fn frames_outside<'r>(layer: &'r Layer<'r, '_>) -> Option<&'r VecDeque<Block
 }
 
 /// Returns how many frames from outside there are around a layer.
-pub fn count_outside(layer: &Layer<'_, '_>) -> usize
+pub fn count_outside<'r>(layer: &'r Layer<'r, '_>) -> usize
     ensures { result ≡ length (frames_outside (chain_of layer.now)) }
 {
     match frames_outside(layer) {

@@ -1,6 +1,6 @@
 use Rattle.handlebars_layers.specs.LayerView.{chain_of}
 use Rattle.handlebars_layers.specs.PartialsView.{partials_of}
-use Rattle.handlebars_layers.proofs.Innermost.{entered-with-none}
+use Rattle.handlebars_layers.proofs.InnermostFrame.{entered-with-none}
 use Rattle.handlebars_layers.proofs.partials.Partials.enter.Goals as goal
 
 pub returns : goal.returns
