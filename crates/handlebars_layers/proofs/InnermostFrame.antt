@@ -9,33 +9,6 @@ use Rattle.handlebars_layers.specs.Chain.{Chain, frame_layer, frames, frames_out
 use Rattle.handlebars_layers.specs.ScopeFrames.{ByDepth, IsEntered, layer_depth, scope_frames, set_partials}
 use Rattle.handlebars_layers.proofs.ScopeFrames.{enters-frame, enters-with-none, scope_frames-unchanged, sets-by-depth}
 
--- ---- no frame
-
-pub no-frames : (at : ByDepth) (c : Chain) (depth n : ℕ) → depth ≡ layer_depth c → n ≡ length (frames_outside c) → depth < 1 → n < 1
-    → scope_frames at c ≡ []
-no-frames at no_layer depth n deep count top none = refl
-no-frames at (outside []) depth n deep count top none = refl
-no-frames at (outside (f ∷ fs)) depth n deep count top none = absurd (omega arith)
-no-frames at (node_layer d start m names kind outer) depth n deep count top none = absurd (omega arith)
-no-frames at (value_layer d kind outer) depth n deep count top none = absurd (omega arith)
-no-frames at (frame_layer f outer) depth n deep count top none = absurd (omega arith)
-
-pub none-deep : (c : Chain) → frames c ≡ [] → layer_depth c < 1
-none-deep no_layer none = omega arith
-none-deep (outside fs) none = omega arith
-none-deep (node_layer d start n names kind outer) none = absurd (cc)
-none-deep (value_layer d kind outer) none = absurd (cc)
-none-deep (frame_layer f outer) none = absurd (cc)
-
-pub none-outside : (c : Chain) → frames c ≡ [] → length (frames_outside c) < 1
-none-outside no_layer none = omega arith
-none-outside (outside fs) none = let count : length fs ≡ 0 = ap length none in omega arith
-none-outside (node_layer d start n names kind outer) none = absurd (cc)
-none-outside (value_layer d kind outer) none = absurd (cc)
-none-outside (frame_layer f outer) none = absurd (cc)
-
--- ---- by the depth of the innermost frame
-
 module _ (new old : ByDepth) (c : Chain) (depth : ℕ) (deep : depth ≡ layer_depth c) where
   pub frames-set : (name : Text) (t : Tree) → ((d : ℕ) → d < depth → new d ≡ old d) → new depth ≡ put_at name t (old depth)
       → scope_frames new c ≡ nearest_as (with_partial name t) (scope_frames old c)

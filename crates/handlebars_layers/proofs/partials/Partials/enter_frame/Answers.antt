@@ -1,4 +1,4 @@
-use Rattle.std.proofs.Common.{◌∙◌, ap, arith, refl, suc}
+use Rattle.std.proofs.Common.{◌≡◌, ◌∙◌, ℕ, arith, refl, subst, suc, sym}
 use Rattle.std.proofs.lemmas.List.{nil_from_length}
 use Rattle.std.proofs.lemmas.Result.{on_ok_weaker}
 use Rattle.handlebars_layers.specs.LayerView.{chain_of}
@@ -18,18 +18,52 @@ returns-then-is_empty-clause-around c =
     (outer-kept c.drop_deeper.new.self c.args.self.now c.args.innermost.depth c.drop_deeper.ensures.ground c.drop_deeper.ensures.all)
 
 pub returns-then-is_empty-clause-frame : goal.returns-then-is_empty-clause-frame
-returns-then-is_empty-clause-frame c = ?
+returns-then-is_empty-clause-frame c =
+    let kept = c.drop_deeper.new.self in
+    let old = c.args.self.now in
+    let depth = c.args.innermost.depth in
+    let empty = nil_from_length c.args.partials.entries (c.is_empty.ensures.0 c.if-is_empty.true) in
+    entered-frame (partials_of kept) (partials_of old) (chain_of c.args.innermost.nearest.now) depth c.args.innermost.deep
+    (partials_named c.args.partials) (suc depth) refl
+    (outer-kept kept old depth c.drop_deeper.ensures.ground c.drop_deeper.ensures.all)
+    (deeper-dropped kept old depth c.drop_deeper.ensures.ground c.drop_deeper.ensures.all (suc depth) (omega arith)
+    ∙ sym (none-named c.args.partials empty))
 
 -- ---- its partials are those of the layer
 
 pub push-requires-clause-deepest : goal.push-requires-clause-deepest
-push-requires-clause-deepest c = ?
+push-requires-clause-deepest c =
+    let kept = c.drop_deeper.new.self in
+    let is = (c.in-Some.ensures tt).1 in
+    let next : c.in-Some.depth ≡ suc c.args.innermost.depth = omega arith in
+    subst (λ (d : ℕ). AllBefore d kept.all.items) (sym next)
+    (deepest-kept kept c.args.self.now c.args.innermost.depth c.drop_deeper.ensures.ground c.drop_deeper.ensures.all)
 
 pub returns-in-Some-clause-around : goal.returns-in-Some-clause-around
-returns-in-Some-clause-around c = ?
+returns-in-Some-clause-around c =
+    let new = c.push.new.self in
+    let kept = c.drop_deeper.new.self in
+    let old = c.args.self.now in
+    let depth = c.args.innermost.depth in
+    let is = (c.in-Some.ensures tt).1 in
+    frames-around (partials_of new) (partials_of old) (chain_of c.args.innermost.nearest.now) depth c.args.innermost.deep (λ d near.
+    outer-pushed new kept c.in-Some.depth c.push.ensures.ground c.push.ensures.outer d (omega arith)
+    ∙ outer-kept kept old depth c.drop_deeper.ensures.ground c.drop_deeper.ensures.all d near)
 
 pub returns-in-Some-clause-frame : goal.returns-in-Some-clause-frame
-returns-in-Some-clause-frame c = ?
+returns-in-Some-clause-frame c =
+    let new = c.push.new.self in
+    let kept = c.drop_deeper.new.self in
+    let old = c.args.self.now in
+    let depth = c.args.innermost.depth in
+    let is = (c.in-Some.ensures tt).1 in
+    let next : c.in-Some.depth ≡ suc depth = omega arith in
+    on_ok_weaker c.push.result (λ own.
+    entered-frame (partials_of new) (partials_of old) (chain_of c.args.innermost.nearest.now) depth c.args.innermost.deep
+    (partials_named c.args.partials) c.in-Some.depth next (λ d near.
+    outer-pushed new kept c.in-Some.depth c.push.ensures.ground c.push.ensures.outer d (omega arith)
+    ∙ outer-kept kept old depth c.drop_deeper.ensures.ground c.drop_deeper.ensures.all d near)
+    (layer-of new c.in-Some.depth (omega arith) ∙ own)) c.push.ensures.own
 
 -- ---- there are 2^64 - 1 layers already
 
