@@ -37,8 +37,8 @@ enters-iterations new old c start n names binding t = λ entered.
 -- partials are not touched where a frame is set up
 iteration-partials : (path : Option (List Text)) (binding : Binding) (t : Iteration) (partial : Text → Option Tree) (f : Frame)
     → set_partials partial (iteration_frame path binding t f) ≡ iteration_frame path binding t (set_partials partial f)
-iteration-partials None binding t partial f = refl
-iteration-partials (Some path) binding t partial f = refl
+iteration-partials None b t partial f = refl
+iteration-partials (Some path) b t partial f = refl
 
 next-frame : (path : Option (List Text)) (binding : Binding) (before t : Iteration) (fs : List Frame) (partial : Text → Option Tree)
     → is_some before.key ≡ is_some t.key

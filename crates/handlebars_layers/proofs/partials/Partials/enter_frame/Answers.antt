@@ -34,7 +34,7 @@ returns-then-is_empty-clause-frame c =
 pub push-requires-clause-deepest : goal.push-requires-clause-deepest
 push-requires-clause-deepest c =
     let kept = c.drop_deeper.new.self in
-    let is = (c.in-Some.ensures tt).1 in
+    let is = c.in-Some.ensures.1 in
     let next : c.in-Some.depth ≡ suc c.args.innermost.depth = omega arith in
     subst (λ (d : ℕ). AllBefore d kept.all.items) (sym next)
     (deepest-kept kept c.args.self.now c.args.innermost.depth c.drop_deeper.ensures.ground c.drop_deeper.ensures.all)
@@ -45,7 +45,7 @@ returns-in-Some-clause-around c =
     let kept = c.drop_deeper.new.self in
     let old = c.args.self.now in
     let depth = c.args.innermost.depth in
-    let is = (c.in-Some.ensures tt).1 in
+    let is = c.in-Some.ensures.1 in
     frames-around (partials_of new) (partials_of old) (chain_of c.args.innermost.nearest.now) depth c.args.innermost.deep (λ d near.
     outer-pushed new kept c.in-Some.depth c.push.ensures.ground c.push.ensures.outer d (omega arith)
     ∙ outer-kept kept old depth c.drop_deeper.ensures.ground c.drop_deeper.ensures.all d near)
@@ -56,7 +56,7 @@ returns-in-Some-clause-frame c =
     let kept = c.drop_deeper.new.self in
     let old = c.args.self.now in
     let depth = c.args.innermost.depth in
-    let is = (c.in-Some.ensures tt).1 in
+    let is = c.in-Some.ensures.1 in
     let next : c.in-Some.depth ≡ suc depth = omega arith in
     on_ok_weaker c.push.result (λ own.
     entered-frame (partials_of new) (partials_of old) (chain_of c.args.innermost.nearest.now) depth c.args.innermost.deep
