@@ -8,7 +8,6 @@ use Rattle.handlebars_template.specs.Tree.{Binding, Tree}
 use Rattle.handlebars_scope.specs.Merged.{merge}
 use Rattle.handlebars_scope.specs.Scopes.{Base, Frame, at_path, at_value}
 use Rattle.handlebars_helpers.specs.Iterations.{Iteration, iteration_base, iteration_frame, iteration_name}
-use Rattle.handlebars_semantics.specs.State.{nearest_variables}
 use Rattle.handlebars_layers.specs.Chain.{Chain, frames, frames_from, kind_frame, names_at, names_from, partial_layer, with_layer}
 use Rattle.handlebars_layers.specs.Entering.{EntersInclusion, EntersIterations, EntersNextIteration, EntersWith}
 use Rattle.handlebars_layers.specs.Layering.{bound_names, iteration_kind}

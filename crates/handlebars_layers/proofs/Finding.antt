@@ -1,15 +1,14 @@
 -- The partial of a name: of layers, or else of the frames from outside.
-use Rattle.std.proofs.Common.{◌≡◌, ◌<◌, ◌≤◌, ℕ, arith, length, List, [], ◌∷◌, Option, Some, None, refl, sym, ap, ◌∙◌}
+use Rattle.std.proofs.Common.{◌≡◌, ℕ, Some, None, sym, ap, ◌∙◌}
 use Rattle.handlebars_base.specs.Bytes.{Text}
 use Rattle.handlebars_template.specs.Tree.{Tree}
 use Rattle.handlebars_scope.specs.Resolve.{or_else}
-use Rattle.handlebars_scope.specs.Scopes.{Frame}
 use Rattle.handlebars_semantics.specs.State.{partial_in}
 use Rattle.handlebars_layers.specs.Chain.{Chain, frames_outside}
 use Rattle.handlebars_layers.specs.NearestPartial.{nearest_partial}
 use Rattle.handlebars_layers.specs.PartialsByDepth.{partials_at}
 use Rattle.handlebars_layers.specs.PartialsView.{partials_of}
-use Rattle.handlebars_layers.specs.ScopeFrames.{ByDepth, further_frames, layer_depth, scope_frames, scope_frames_outside}
+use Rattle.handlebars_layers.specs.ScopeFrames.{layer_depth, scope_frames, scope_frames_outside}
 use Rattle.handlebars_layers.specs.declared.partials.Partials.{Partials}
 use Rattle.handlebars_layers.proofs.Nearest.{nearest-layers}
 use Rattle.handlebars_layers.proofs.ScopeFrames.{finds-by-depth}

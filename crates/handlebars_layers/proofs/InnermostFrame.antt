@@ -1,11 +1,11 @@
 -- Partials that are set in the innermost frame, and layers that are entered from it.
-use Rattle.std.proofs.Common.{◌≡◌, inl, inr, ◌<◌, ◌≤◌, ℕ, suc, arith, length, List, [], ◌∷◌, refl, sym, ap, ◌∙◌}
+use Rattle.std.proofs.Common.{◌≡◌, inl, inr, ◌<◌, ◌≤◌, ℕ, suc, arith, ◌∷◌, sym, ap, ◌∙◌}
 use Rattle.std.proofs.lemmas.Bool.{cases_lt}
 use Rattle.handlebars_base.specs.Bytes.{Text}
 use Rattle.handlebars_template.specs.Tree.{Tree}
 use Rattle.handlebars_scope.specs.Scopes.{Frame, nothing_at, put_at}
 use Rattle.handlebars_semantics.specs.State.{nearest_as, with_partial}
-use Rattle.handlebars_layers.specs.Chain.{Chain, frame_layer, frames, frames_outside, no_layer, node_layer, outside, value_layer}
+use Rattle.handlebars_layers.specs.Chain.{Chain, frame_layer}
 use Rattle.handlebars_layers.specs.ScopeFrames.{ByDepth, IsEntered, layer_depth, scope_frames, set_partials}
 use Rattle.handlebars_layers.proofs.ScopeFrames.{enters-frame, enters-with-none, scope_frames-unchanged, sets-by-depth}
 

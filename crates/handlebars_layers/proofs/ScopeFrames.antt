@@ -9,7 +9,7 @@ use Rattle.handlebars_template.specs.Tree.{Tree}
 use Rattle.handlebars_scope.specs.Resolve.{Resolution, after_ups, along, bound_resolution, found_by, found_within, frame_up, is_from_root, names_of, or_else, resolution_in, resolution_of, resolution_of_bound, resolution_of_name, resolve, unbound_resolution, ups_in, variable_at}
 use Rattle.handlebars_base.specs.Answers.{gives}
 use Rattle.handlebars_scope.specs.Scopes.{Base, Frame, at_path, at_value, empty_frame, frame_at, nothing_at, put_at}
-use Rattle.handlebars_semantics.specs.State.{nearest_as, nearest_variables, outer_frames, partial_in, with_partial}
+use Rattle.handlebars_semantics.specs.State.{nearest_as, nearest_variables, partial_in, with_partial}
 use Rattle.handlebars_layers.specs.ScopeFrames.{ByDepth, EntersFrame, EntersWithNone, FindsByDepth, IgnorePartials, LeavesOuter, SetsByDepth, VariablesIgnorePartials, layer_depth, scope_frames, scope_frames_outside, set_partials}
 use Rattle.handlebars_layers.specs.NearestPartial.{nearest_partial}
 use Rattle.handlebars_layers.specs.Chain.{Chain, LayerKind, frame_layer, frames, frames_outside, partial_layer, iteration_layer, names_from, with_layer, kind_bound, no_layer, node_layer, outside, kind_frame, kind_names, value_layer}
