@@ -4,10 +4,11 @@ ghost use Rattle.std.specs.Prelude.{◌≡◌, List, None, Some, false, map, opt
 ghost use Rattle.handlebars_base.specs.Shown.{escaped_if};
 ghost use Rattle.handlebars_scope.specs.Indentation.{lines_of, takes_indent};
 ghost use Rattle.handlebars_scope.specs.LineView.{line_of};
+ghost use Rattle.handlebars_scope.specs.ResolutionView.{names_in};
 ghost use Rattle.handlebars_semantics.specs.Emitted.{emitted, provenance};
 ghost use Rattle.handlebars_semantics.specs.Pieces as meaning;
 ghost use Rattle.handlebars_semantics.specs.Pieces.{Piece, indent_pieces, pieces_between, pieces_of, pieces_put};
-ghost use Rattle.handlebars_expand.specs.PiecesView.{captured_emitted, emitted_seen, kind_seen, location_seen, origin_seen};
+ghost use Rattle.handlebars_expand.specs.PiecesView.{captured_emitted, emitted_seen, kind_seen, location_seen, origin_seen, path_seen};
 ghost use Rattle.handlebars_write.specs.Emits.{value_kind};
 ghost use Rattle.handlebars_write.specs.LocationView.{iterations_of, provenance_in, whereabouts_in};
 ghost use Rattle.handlebars_write.specs.ModeClauses.{EmitsTo, KeepsLine, PutsFrom, WritesFrom, WritesTo};
@@ -24,6 +25,7 @@ use handlebars_base::json::value::{Json, JsonRender};
 use handlebars_base::support::escape_html;
 use handlebars_expand::ahead::Captured;
 use handlebars_expand::pieces::{Location, Origin, PieceKind, PieceOutput, full_path};
+use handlebars_scope::context::full_path::FullPath;
 use handlebars_scope::line::LineState;
 use std::alloc::Global;
 
@@ -127,7 +129,7 @@ fn put<O: PieceOutput, L: ValuePath>(
     let origin = Origin {
         kind,
         location: location(at, iterations.as_slice()),
-        path: full_path(names.as_ref()),
+        path: path_of(&names),
     };
     match emit_put(alloc, at.surroundings.indent, *line, text, &origin, sink) {
         Outcome::Done => {
@@ -196,6 +198,13 @@ fn put_piece<O: PieceOutput>(
         path: None,
     };
     emit(alloc, at_boolean_text, text, &origin, sink)
+}
+
+// The path of these names, if there are any.
+fn path_of(names: &Option<Vec<String>>) -> Option<FullPath<'_>>
+    ensures { path_seen result ≡ option_map (λ ns. names_in ns.items) names.now }
+{
+    full_path(names.as_ref())
 }
 
 // The location of an element, with the indexes of the iterations around it.
