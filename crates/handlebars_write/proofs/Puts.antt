@@ -114,10 +114,10 @@ module _ (may : Error → Type 0) where
 
   pub text_reported : {t : Text} {at_boolean_text : Bool} (h new : Held) (cause : Error) (o : Outcome) → IsWrittenInPart t h new → may cause
       → Reports cause at_boolean_text o → WritesText t at_boolean_text may (text_only h) (outcome_answer o) (text_only new)
-  text_reported {at_boolean_text = at_boolean_text} h new cause o cut given reports = by_answer (outcome_answer o) reports
+  text_reported {t = t} {at_boolean_text = at_boolean_text} h new cause o cut given reports = by_answer (outcome_answer o) reports
     where
       by_answer : (r : Answered) → MatchResult r (λ u. ⊥) (λ e. ReportsWriteError cause (plain_write_error at_boolean_text) e)
-          → WritesText _ at_boolean_text may (text_only h) r (text_only new)
+          → WritesText t at_boolean_text may (text_only h) r (text_only new)
       by_answer (Ok u) is = absurd is
       by_answer (Err e) is = text_error h new cause e cut given is
 
@@ -219,4 +219,4 @@ module _ (may : Error → Type 0) where
 
   -- none is written, when memory runs out
   pub puts-no_memory : (o : Origin) (t : Text) (s next : State) (h : Holding) → Puts o t may (moment_at s h) no_memory (moment_at next h)
-  puts-no_memory o t s next h = part_written none (gains-none h) refl
+  puts-no_memory o t s next h = part_written none (gains-none h) refl refl

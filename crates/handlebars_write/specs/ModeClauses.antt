@@ -1,5 +1,5 @@
 -- What the methods of an output mode guarantee.
-use Rattle.std.specs.Prelude.{◌≡◌, Bool, true, List, Option}
+use Rattle.std.specs.Prelude.{◌≡◌, Bool, true, false, List, Option}
 use Rattle.std.specs.declared.io.Error.{Error}
 use denote.MutBor.{MutBor}
 use denote.Triple.Both.{Both}

@@ -8,12 +8,13 @@ ghost use Rattle.handlebars_scope.specs.ResolutionView.{names_in};
 ghost use Rattle.handlebars_semantics.specs.Emitted.{emitted, provenance};
 ghost use Rattle.handlebars_semantics.specs.Pieces as meaning;
 ghost use Rattle.handlebars_semantics.specs.Pieces.{Piece, indent_pieces, pieces_between, pieces_of, pieces_put};
-ghost use Rattle.handlebars_expand.specs.PiecesView.{captured_emitted, emitted_seen, kind_seen, location_seen, origin_seen, path_seen};
+ghost use Rattle.handlebars_expand.specs.PiecesView.{captured_emitted, emitted_seen, kind_seen, location_seen, origin_seen};
 ghost use Rattle.handlebars_write.specs.Emits.{value_kind};
 ghost use Rattle.handlebars_write.specs.LocationView.{iterations_of, provenance_in, whereabouts_in};
-ghost use Rattle.handlebars_write.specs.ModeClauses.{EmitsTo, KeepsLine, PutsFrom, WritesFrom, WritesTo};
+ghost use Rattle.handlebars_write.specs.ModeClauses.{EmitsTo, InLine, KeepsLine, PutsFrom, WritesFrom, WritesTo};
 ghost use Rattle.handlebars_write.specs.ModeView.{piece_mode};
 ghost use Rattle.handlebars_write.specs.View.{IsSame};
+ghost use Rattle.handlebars_write.specs.Writes.{Puts};
 
 use crate::location::ElementLocation;
 use crate::outcome::Outcome;
@@ -25,7 +26,6 @@ use handlebars_base::json::value::{Json, JsonRender};
 use handlebars_base::support::escape_html;
 use handlebars_expand::ahead::Captured;
 use handlebars_expand::pieces::{Location, Origin, PieceKind, PieceOutput, full_path};
-use handlebars_scope::context::full_path::FullPath;
 use handlebars_scope::line::LineState;
 use std::alloc::Global;
 
@@ -126,18 +126,8 @@ fn put<O: PieceOutput, L: ValuePath>(
     let Ok(names) = path.path(alloc) else {
         return Outcome::OutOfMemory;
     };
-    let origin = Origin {
-        kind,
-        location: location(at, iterations.as_slice()),
-        path: path_of(&names),
-    };
-    match emit_put(alloc, at.surroundings.indent, *line, text, &origin, sink) {
-        Outcome::Done => {
-            *line = line.after(text);
-            Outcome::Done
-        }
-        failed => failed,
-    }
+    let origin = origin(at, kind, iterations.as_slice(), &names);
+    put_from(alloc, at.surroundings.indent, text, &origin, line, sink)
 }
 
 // Emits the pieces of a text that a value is rendered as. The text with entities is built if they are asked for.
@@ -192,19 +182,25 @@ fn put_piece<O: PieceOutput>(
     let Ok(iterations) = at.surroundings.iterations.indexes(alloc) else {
         return Outcome::OutOfMemory;
     };
-    let origin = Origin {
-        kind,
-        location: location(at, iterations.as_slice()),
-        path: None,
-    };
+    let origin = origin(at, kind, iterations.as_slice(), &None);
     emit(alloc, at_boolean_text, text, &origin, sink)
 }
 
-// The path of these names, if there are any.
-fn path_of(names: &Option<Vec<String>>) -> Option<FullPath<'_>>
-    ensures { path_seen result ≡ option_map (λ ns. names_in ns.items) names.now }
+// The origin of a piece of this kind and path, with the indexes of the iterations around its element.
+fn origin<'p>(
+    at: ElementLocation<'p>,
+    kind: PieceKind,
+    iterations: &'p [usize],
+    names: &'p Option<Vec<String>>,
+) -> Origin<'p>
+    ensures { iterations.now ≡ iterations_of at.entry.surroundings.now.iterations.now
+        → origin_seen result ≡ provenance_in at.entry (kind_seen kind) (option_map (λ ns. names_in ns.items) names.now) }
 {
-    full_path(names.as_ref())
+    Origin {
+        kind,
+        location: location(at, iterations),
+        path: full_path(names.as_ref()),
+    }
 }
 
 // The location of an element, with the indexes of the iterations around it.
@@ -219,6 +215,29 @@ fn location<'p>(at: ElementLocation<'p>, iterations: &'p [usize]) -> Location<'p
 }
 
 // ---- the pieces of a text
+
+// Emits the pieces of a text under an indentation or without one, and updates the state of the line.
+fn put_from<O: PieceOutput>(
+    alloc: Global,
+    indent: Option<&str>,
+    text: &str,
+    origin: &Origin<'_>,
+    line: &mut LineState,
+    sink: &mut Sink<'_, O, EachPiece>,
+) -> Outcome
+    ensures puts { (o : meaning.Origin) → provenance o ≡ origin_seen origin.now
+        → InLine (piece_mode O.received O.may_give) (option_map (λ t. t.now) indent.entry) line sink result (Puts o text.now O.may_give) }
+    ensures same { IsSame sink.old sink.new }
+    ensures unchanged { KeepsLine line result }
+{
+    match emit_put(alloc, indent, *line, text, origin, sink) {
+        Outcome::Done => {
+            *line = line.after(text);
+            Outcome::Done
+        }
+        failed => failed,
+    }
+}
 
 // Emits a text in a line, under an indentation or without one.
 fn emit_put<O: PieceOutput>(

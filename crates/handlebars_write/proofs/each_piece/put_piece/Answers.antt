@@ -6,4 +6,4 @@ pub returns-in_default-clause-emits : goal.returns-in_default-clause-emits
 returns-in_default-clause-emits g c = piece_lost refl refl
 
 pub returns-clause-emits : goal.returns-clause-emits
-returns-clause-emits g c = rw (c.location.ensures (c.as_slice.ensures.value ∙ c.in-Ok.ensures)) at c.emit.ensures.emits
+returns-clause-emits g c = rw (c.origin-origin.ensures (c.as_slice.ensures.value ∙ c.in-Ok.ensures)) at c.emit.ensures.emits

@@ -13,4 +13,4 @@ returns-in-Ok-clause-puts g c = λ s indent same.
     rw (c.as_str-in-Ok.ensures.value, c.in-Ok.ensures) at (c.put_under-in-Ok.ensures.puts s indent same)
 
 pub returns-in-Err-clause-puts : goal.returns-in-Err-clause-puts
-returns-in-Err-clause-puts g c = λ s indent same. text-no_memory _ (shown c.args.entities (view c.args.value.now)) s _ _
+returns-in-Err-clause-puts g c = λ s indent same. text-no_memory _ (shown c.args.entities (view c.args.value.now)) s s _
