@@ -5,10 +5,10 @@ use Rattle.handlebars_write.proofs.Puts.{puts-no_memory}
 use Rattle.handlebars_write.proofs.each_piece.put.Goals as goal
 
 pub returns-in_default-clause-puts : goal.returns-in_default-clause-puts
-returns-in_default-clause-puts g c = λ o is s indent same. puts-no_memory _ o c.args.text.now s s _
+returns-in_default-clause-puts g c = λ o is s indent same. puts-no_memory _ o c.args.text.now s _ _
 
 pub returns-in_default-path-clause-puts : goal.returns-in_default-path-clause-puts
-returns-in_default-path-clause-puts g c = λ o is s indent same. puts-no_memory _ o c.args.text.now s s _
+returns-in_default-path-clause-puts g c = λ o is s indent same. puts-no_memory _ o c.args.text.now s _ _
 
 pub returns-clause-puts : goal.returns-clause-puts
 returns-clause-puts g c = λ o is s indent same.

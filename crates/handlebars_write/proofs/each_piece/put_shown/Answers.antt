@@ -10,4 +10,4 @@ returns-in-Ok-clause-puts g c = rw c.if-not-entities.false
     (rw (c.value_kind-in-Ok.ensures, c.as_str.ensures.value, c.in-Ok.ensures) at c.put-in-Ok.ensures.puts)
 
 pub returns-in-Err-clause-puts : goal.returns-in-Err-clause-puts
-returns-in-Err-clause-puts g c = λ o is s indent same. puts-no_memory _ o (escaped_if c.args.entities c.args.text.now) s s _
+returns-in-Err-clause-puts g c = λ o is s indent same. puts-no_memory _ o (escaped_if c.args.entities c.args.text.now) s _ _

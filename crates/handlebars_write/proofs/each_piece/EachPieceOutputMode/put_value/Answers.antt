@@ -12,4 +12,4 @@ pub returns-in-Ok-clause-puts : goal.returns-in-Ok-clause-puts
 returns-in-Ok-clause-puts g c = rw (c.as_str-in-Ok.ensures.value, c.in-Ok.ensures) at c.put_shown-in-Ok.ensures.puts
 
 pub returns-in-Err-clause-puts : goal.returns-in-Err-clause-puts
-returns-in-Err-clause-puts g c = λ o is s indent same. puts-no_memory _ o (shown c.args.entities (view c.args.value.now)) s s _
+returns-in-Err-clause-puts g c = λ o is s indent same. puts-no_memory _ o (shown c.args.entities (view c.args.value.now)) s _ _
