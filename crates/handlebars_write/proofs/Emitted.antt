@@ -1,5 +1,5 @@
 -- What is emitted of pieces: texts joined.
-use Rattle.std.proofs.Common.{MatchResult, ◌≡◌, Bool, true, false, List, [], ◌∷◌, ◌++◌, Some, refl, sym, ap, ◌∙◌, append_assoc, append-nil, Ok, Err}
+use Rattle.std.proofs.Common.{MatchResult, ◌≡◌, Bool, true, List, [], ◌∷◌, ◌++◌, Some, refl, sym, ap, ◌∙◌, append_assoc, append-nil, Ok, Err}
 use Rattle.std.specs.declared.io.Error.{Error}
 use Rattle.handlebars_base.specs.Bytes.{Text}
 use Rattle.handlebars_base.specs.Reasons.{out_of_memory}
@@ -13,7 +13,7 @@ use Rattle.handlebars_write.specs.View.{Answered, ReportsWriteError, holding, ho
 use Rattle.handlebars_write.specs.ModeView.{piece_mode}
 use Rattle.handlebars_write.specs.OutcomeView.{Reports, outcome_answer}
 use Rattle.handlebars_write.specs.declared.outcome.Outcome.{Outcome}
-use Rattle.handlebars_write.specs.Writes.{EmitsPiece, and_emitted, piece_lost, piece_failed, piece_emitted}
+use Rattle.handlebars_write.specs.Writes.{EmitsPiece, piece_lost, piece_failed, piece_emitted}
 use Rattle.handlebars_expand.specs.declared.ahead.Ahead as declared
 
 pub texts-append : (xs ys : List Emitted) → texts (xs ++ ys) ≡ texts xs ++ texts ys

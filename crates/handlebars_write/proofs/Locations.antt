@@ -1,13 +1,10 @@
 -- Where an element is.
-use Rattle.std.proofs.Common.{◌≡◌, ℕ, ◌<◌, ◌≤◌, ◌∙◌, List, map, length, get_or, Option, None, Some, option_map, refl, sym, ap, ap₂}
+use Rattle.std.proofs.Common.{◌≡◌, ℕ, ◌<◌, ◌≤◌, ◌∙◌, List, map, length, get_or, Option, None, Some, option_map, refl, sym, ap}
 use Rattle.std.specs.Prelude.{slice_get, IfSome, MatchOption}
 use Rattle.std.proofs.lemmas.Option.{slice_get-map, slice_get_past, slice_get_read}
 use denote.Ref.{Bor}
-use Rattle.handlebars_base.specs.Bytes.{Text}
 use Rattle.handlebars_template.specs.TreeView.{position_of}
 use Rattle.handlebars_template.specs.declared.template.tree.TemplateMapping.{TemplateMapping}
-use Rattle.handlebars_semantics.specs.Emitted.{Kind}
-use Rattle.handlebars_semantics.specs.Occurrences.{Whereabouts}
 
 through : {A B C : Type 0} (f : A → B) (h : B → C) (o : Option A) → option_map h (option_map f o) ≡ option_map (λ a. h (f a)) o
 through f h None = refl

@@ -1,5 +1,5 @@
 -- What the calls that write a text guarantee.
-use Rattle.std.proofs.Common.{◌≡◌, ◌≢◌, ◌<◌, Bool, true, false, List, map, [], ◌∷◌, ◌++◌, length, Option, None, Some, Result, Ok, Err, refl, sym, ap, ◌∙◌, subst, append-nil, inl, inr, MatchResult, arith}
+use Rattle.std.proofs.Common.{◌≡◌, ◌≢◌, ◌<◌, Bool, true, false, List, map, [], ◌∷◌, ◌++◌, length, Option, None, Some, Ok, Err, refl, sym, ap, ◌∙◌, subst, append-nil, inl, inr, MatchResult, arith}
 use Rattle.std.specs.Prelude.{unwrap_or, IfOk}
 use Rattle.std.specs.declared.io.Error.{Error}
 use Rattle.std.specs.declared.io.ErrorKind.TheVariants.{OutOfMemory}
@@ -18,7 +18,7 @@ use Rattle.handlebars_scope.proofs.Lines.{line_after_text-escaped}
 use Rattle.handlebars_semantics.specs.Pieces.{Origin, Piece, join, put}
 use Rattle.handlebars_semantics.specs.Runs.{none, plain_write_error}
 use Rattle.handlebars_semantics.specs.State.{State}
-use Rattle.handlebars_semantics.specs.Emitted.{Emitted, emitted}
+use Rattle.handlebars_semantics.specs.Emitted.{emitted}
 use Rattle.handlebars_semantics.proofs.Pieces.{Prefix-of, join-put}
 use Rattle.handlebars_expand.specs.PiecesView.{ahead_emitted, captured_emitted, plain_text}
 use Rattle.handlebars_expand.specs.View.{AreCaptured, with_line, written_at}

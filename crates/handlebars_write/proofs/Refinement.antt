@@ -1,5 +1,5 @@
 -- How the results of calls compose, for the proofs of the rendering functions.
-use Rattle.std.proofs.Common.{◌≡◌, ◌≢◌, ℕ, Bool, true, false, not, List, map, [], ◌∷◌, ◌++◌, ◌+◌, ◌<◌, ◌^◌, Option, None, Some, Result, Ok, Err, refl, sym, ap, ◌∙◌, subst, append_assoc, append-nil, ◌⊎◌, inl, inr}
+use Rattle.std.proofs.Common.{◌≡◌, ◌≢◌, ℕ, Bool, true, false, not, List, [], ◌∷◌, ◌++◌, ◌+◌, ◌<◌, ◌^◌, Result, Ok, Err, refl, sym, ap, ◌∙◌, subst, append-nil, ◌⊎◌, inl, inr}
 use Rattle.std.specs.declared.io.Error.{Error}
 use Rattle.std.specs.Result.{IsErrAnd}
 use Rattle.handlebars_base.specs.Answers.{IsRefusal}
@@ -8,19 +8,18 @@ use Rattle.handlebars_base.specs.Reasons.{Reason, Location, Refusal, out_of_memo
 use Rattle.handlebars_base.specs.RenderRefusals.{reason_in, reason_of, location_of, cause_of, refusal_of, plain_refusal}
 use Rattle.handlebars_base.specs.Values.{boolean_text}
 use Rattle.handlebars_base.specs.declared.error.render_error.RenderError.{RenderError}
-use Rattle.handlebars_semantics.specs.Pieces.{Origin, of_step, of_boolean_text, Piece, join, pieces_of, put}
+use Rattle.handlebars_semantics.specs.Pieces.{Origin, of_step, of_boolean_text, Piece, pieces_of, put}
 use Rattle.handlebars_scope.specs.LineState.{LineState}
 use Rattle.handlebars_scope.specs.Scopes.{Frame}
 use Rattle.handlebars_semantics.specs.Occurrences.{Occurrence}
 use Rattle.handlebars_semantics.specs.State.{Setting, State, push_frame, pop_frame}
 use Rattle.handlebars_semantics.specs.Steps.{Task, Steps, Done, Fail, Write, Get, Set, Do, Prog, return, run, fail_for, state, become, write, perform, ◌>>=◌, ◌>>◌}
-use Rattle.handlebars_semantics.specs.Emitted.{Emitted, emitted}
 use Rattle.handlebars_semantics.specs.Writing.{write_text, write_step, write_boolean_text}
 use Rattle.handlebars_semantics.specs.Execute.{change, in_scope_frame}
 use Rattle.handlebars_semantics.specs.Means.{without_escaping, line_out, on_line, todo}
 use Rattle.handlebars_semantics.specs.Runs.{WriteError, plain_write_error, Outcome, Ended, Failed, WriteFailed, NoMemory, Stops, Prefix, none, mark_location, Runs, done, failed, wrote, got, set, did, did_over, stop, cut}
 use Rattle.handlebars_expand.specs.View.{GivesValue, ValueFails}
-use Rattle.handlebars_write.specs.View.{Gains, Holding, Moment, moment_at, with_emitted, ReportsCause, ReportsWriteError, Answered, MatchesOutcome, ended, refusal, write_error, no_memory, RefinesSteps, RefinesProg, goes_on, is_over}
+use Rattle.handlebars_write.specs.View.{Gains, Holding, Moment, moment_at, with_emitted, ReportsWriteError, Answered, MatchesOutcome, ended, refusal, write_error, no_memory, RefinesSteps, RefinesProg, goes_on, is_over}
 use Rattle.handlebars_write.specs.Writes.{AreSome, Puts, WritesPieces, all_written, prefix_written, part_written}
 use Rattle.handlebars_expand.specs.Boxed.{IsPropagated, answer_of, error_of}
 use Rattle.handlebars_expand.specs.declared.boxed.BoxedError.{BoxedError}

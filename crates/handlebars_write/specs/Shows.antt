@@ -9,12 +9,12 @@ use Rattle.handlebars_helpers.specs.Escaping.{Escaping, for_html, for_plain, by_
 use Rattle.handlebars_scope.specs.declared.line.LineState.{LineState}
 use Rattle.handlebars_semantics.specs.Pieces.{Origin, of_raw, of_value}
 use Rattle.handlebars_semantics.specs.Occurrences.{Occurrence}
-use Rattle.handlebars_semantics.specs.State.{Parts, Setting}
+use Rattle.handlebars_semantics.specs.State.{Parts}
 use Rattle.handlebars_semantics.specs.Writing.{write_value}
 use Rattle.handlebars_write.specs.LocationView.{IsAt, indent_in}
 use Rattle.handlebars_write.specs.ModeClauses.{InLine}
 use Rattle.handlebars_write.specs.ModeView.{ModeView}
-use Rattle.handlebars_write.specs.View.{Answered, Moment, RefinesProg}
+use Rattle.handlebars_write.specs.View.{RefinesProg}
 use Rattle.handlebars_write.specs.declared.location.ElementLocation.{ElementLocation}
 use Rattle.handlebars_write.specs.declared.outcome.Outcome.{Outcome}
 use Rattle.handlebars_write.specs.declared.sink.Sink.{Sink}

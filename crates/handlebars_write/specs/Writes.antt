@@ -1,18 +1,16 @@
 -- What the calls that write guarantee.
-use Rattle.std.specs.Prelude.{◌≡◌, ◌+◌, ◌^◌, ◌<◌, ◌++◌, ◌∷◌, [], length, Bool, false, List, Option, Some, None, Result, Ok, Err, MatchResult}
+use Rattle.std.specs.Prelude.{◌≡◌, ◌+◌, ◌^◌, ◌<◌, ◌++◌, ◌∷◌, [], length, Bool, false, List, Option, Some, None, Ok, Err, MatchResult}
 use Rattle.std.specs.declared.io.Error.{Error}
 use Rattle.handlebars_base.specs.Bytes.{Text}
 use Rattle.handlebars_base.specs.Outputs.{IsPrefix}
 use Rattle.handlebars_base.specs.Reasons.{out_of_memory}
 use Rattle.handlebars_base.specs.RenderRefusals.{reason_in}
 use Rattle.handlebars_base.specs.declared.error.render_error.RenderError.{RenderError}
-use Rattle.handlebars_scope.specs.LineView.{line_of}
-use Rattle.handlebars_scope.specs.declared.line.LineState.{LineState}
 use Rattle.handlebars_semantics.specs.Pieces.{Origin, Piece, put}
 use Rattle.handlebars_semantics.specs.Runs.{Prefix, plain_write_error}
 use Rattle.handlebars_semantics.specs.State.{State}
 use Rattle.handlebars_semantics.specs.Emitted.{Emitted}
-use Rattle.handlebars_expand.specs.View.{state_after, with_line, written_at}
+use Rattle.handlebars_expand.specs.View.{state_after, written_at}
 use Rattle.handlebars_write.specs.View.{Answered, Gains, Holding, Moment, ReportsWriteError}
 
 -- ---- texts, of which no piece is emitted
