@@ -1,0 +1,10 @@
+mod Gains
+mod Causes
+pub mod Refinement
+pub mod Puts
+pub mod Sinks
+pub mod Outcomes
+pub mod Emits
+pub mod Emitted
+pub mod Shows
+mod Locations

@@ -1,0 +1,8 @@
+pub mod ModeView
+pub mod View
+pub mod OutcomeView
+pub mod LocationView
+pub mod Writes
+pub mod Emits
+pub mod Shows
+pub mod ModeClauses
