@@ -2,7 +2,6 @@
 
 ghost use Rattle.std.specs.Prelude.{true};
 ghost use Rattle.handlebars_semantics.specs.Runs.{plain_write_error};
-ghost use Rattle.handlebars_expand.specs.Boxed.{error_of};
 ghost use Rattle.handlebars_write.specs.OutcomeView.{Reports};
 ghost use Rattle.handlebars_write.specs.View.{ReportsWriteError};
 
