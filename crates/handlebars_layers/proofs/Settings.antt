@@ -54,6 +54,12 @@ pub outer-pushed : (new kept : Partials) (within : ℕ) → new.ground ≡ kept.
 outer-pushed new kept within ground outer zero less = ap partials_named ground
 outer-pushed new kept within ground outer (suc d) less = outer (suc d) less
 
+-- if no entry is changed, no frame's partials are
+pub entries-unchanged : (new kept : Partials) → new.ground ≡ kept.ground → new.all.items ≡ kept.all.items
+    → (d : ℕ) → partials_of new d ≡ partials_of kept d
+entries-unchanged new kept ground all zero = ap partials_named ground
+entries-unchanged new kept ground all (suc d) = ap (λ (fs : List OfFrame). partials_at fs (suc d)) all
+
 -- a map without entries has no partial
 pub none-named : (by_name : BTreeMap (String Global) (Rc Template Global)) → by_name.entries ≡ [] → partials_named by_name ≡ nothing_at
 none-named by_name empty = λ i name.

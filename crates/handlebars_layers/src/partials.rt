@@ -29,17 +29,6 @@ struct OfFrame {
 }
 
 impl OfFrame {
-    // Creates an entry for the frame at this depth, in which no partial is set.
-    fn new(depth: usize, alloc: Global) -> OfFrame
-        ensures depth { result.depth ≡ depth }
-        ensures partials { partials_in result ≡ nothing_at }
-    {
-        OfFrame {
-            depth,
-            by_name: BTreeMap::new(alloc),
-        }
-    }
-
     // Returns the partial of this name, if the frame has one.
     fn get(&self, name: &str) -> Option<&Rc<Template>>
         ensures { option_map (λ t. tree_view t.now.value) result ≡ partials_in self.now name.now }
@@ -133,16 +122,18 @@ impl Partials {
         ground
     }
 
-    /// Prepares for a layer that is entered from this innermost one: it will have no partial, and nor will a layer within it. All
-    /// frames that are there keep theirs.
+    /// Prepares for a layer that is entered from this innermost one: it will have no partial, and nor will a layer within it. The
+    /// partials of all frames around it are unchanged.
     pub fn enter(&mut self, innermost: Innermost<'_, '_>)
-        ensures { IsEntered (partials_of self.new) (partials_of self.old) (chain_of innermost.entry.nearest.now) }
+        ensures entered { IsEntered (partials_of self.new) (partials_of self.old) (chain_of innermost.entry.nearest.now) }
+        ensures depths { (d : ℕ) → d ≤ innermost.entry.depth → partials_of self.new d ≡ partials_of self.old d }
+        ensures deeper { (d : ℕ) → innermost.entry.depth < d → partials_of self.new d ≡ nothing_at }
     {
-        self.keep_to(innermost.depth);
+        self.drop_deeper(innermost.depth);
     }
 
-    /// Prepares for a layer that is entered from this innermost one, of a frame that has these partials. All frames that are there
-    /// keep theirs.
+    /// Prepares for a layer that is entered from this innermost one, of a frame that has these partials. The partials of all frames
+    /// around it are unchanged.
     ///
     /// # Errors
     ///
@@ -157,22 +148,27 @@ impl Partials {
         ensures frame { OnOk result ((f : Frame)
             → scope_frames (partials_of self.new) (frame_layer f (chain_of innermost.entry.nearest.now))
             ≡ set_partials (partials_named partials) f ∷ scope_frames (partials_of self.old) (chain_of innermost.entry.nearest.now)) }
+        ensures err { OnErr result
+            (IsEntered (partials_of self.new) (partials_of self.old) (chain_of innermost.entry.nearest.now)) }
+        ensures depths { (d : ℕ) → d ≤ innermost.entry.depth → partials_of self.new d ≡ partials_of self.old d }
     {
-        self.drop_deeper(innermost.depth);
+        let around = innermost.depth;
+        self.drop_deeper(around);
         if partials.is_empty() {
             return Ok(());
         }
-        match innermost.depth.checked_add(1) {
+        match around.checked_add(1) {
             Some(depth) => self.push(depth, partials),
             None => Err(AllocError),
         }
     }
 
-    /// Sets the partial of a name in the innermost frame. Nothing is set if there is no frame.
+    /// Sets the partial of a name in the innermost frame, and drops the partials of frames within it, which are left. Nothing is
+    /// set or dropped if there is no frame.
     ///
     /// # Errors
     ///
-    /// Fails if memory runs out. Then all frames have the partials that they had.
+    /// Fails if memory runs out. Then the partials of the innermost frame and of those around it are unchanged.
     pub fn put(
         &mut self,
         innermost: Innermost<'_, '_>,
@@ -186,19 +182,12 @@ impl Partials {
             ≡ scope_frames (partials_of self.old) (chain_of innermost.entry.nearest.now)) }
         ensures unframed { frames (chain_of innermost.entry.nearest.now) ≡ []
             → (d : ℕ) → partials_of self.new d ≡ partials_of self.old d }
+        ensures depths { (d : ℕ) → d < innermost.entry.depth → partials_of self.new d ≡ partials_of self.old d }
     {
         if innermost.depth == 0 && innermost.outside == 0 {
             return Ok(());
         }
         self.set(innermost.depth, name, template)
-    }
-
-    // Drops the partials of all frames that are deeper than this depth.
-    fn keep_to(&mut self, depth: usize)
-        ensures outer { (d : ℕ) → d ≤ depth → partials_of self.new d ≡ partials_of self.old d }
-        ensures deeper { (d : ℕ) → depth < d → partials_of self.new d ≡ nothing_at }
-    {
-        self.drop_deeper(depth);
     }
 
     // Sets the partial of a name in the frame at this depth, and drops the partials of all deeper frames. They are dropped also if
@@ -256,10 +245,9 @@ impl Partials {
         ensures err { OnErr result (self.new.all.items ≡ self.old.all.items) }
         ensures deeper { (d : ℕ) → depth < d → partials_at self.new.all.items d ≡ nothing_at }
     {
-        let mut own = OfFrame::new(depth, self.alloc);
-        own.set(name, template)?;
-        self.all.push(own)?;
-        Ok(())
+        let mut by_name = BTreeMap::new(self.alloc);
+        set_named(&mut by_name, name, template)?;
+        self.push(depth, by_name)
     }
 
     // Adds the entry of a layer, with these partials. No other entry is of this layer or of a deeper one.
@@ -273,6 +261,8 @@ impl Partials {
         ensures ground { self.new.ground ≡ self.old.ground }
         ensures outer { (d : ℕ) → d < depth → partials_at self.new.all.items d ≡ partials_at self.old.all.items d }
         ensures own { OnOk result (partials_at self.new.all.items depth ≡ partials_named by_name) }
+        ensures err { OnErr result (self.new.all.items ≡ self.old.all.items) }
+        ensures deeper { (d : ℕ) → depth < d → partials_at self.new.all.items d ≡ nothing_at }
     {
         self.all.push(OfFrame { depth, by_name })?;
         Ok(())
@@ -299,8 +289,8 @@ impl Partials {
         }
     }
 
-    // Returns the partial of a name that a frame from outside has, the nearest one first. Mostly there is only one, and it is not
-    // walked to.
+    // Returns the partial of a name that a frame from outside has, the nearest one first. If there is only one, layers are not
+    // walked.
     fn get_outside<'p>(
         &'p self,
         innermost: Innermost<'p, 'p>,
