@@ -21,7 +21,7 @@ use Rattle.handlebars_scope.proofs.Resolutions.{value_at-on}
 use Rattle.handlebars_helpers.specs.Iterations.{Iteration, item_count, item_iterations, iteration_name, iterations_of, member_count, member_iterations}
 use Rattle.handlebars_helpers.specs.IterationsLeft.{iterations_with}
 use Rattle.handlebars_layers.specs.Chain.{BlockNames, Chain, IsValue, NodesAreThere, names_from, node_layer, with_layer}
-use Rattle.handlebars_layers.specs.Layering.{kind_of_iteration}
+use Rattle.handlebars_layers.specs.Layering.{iteration_kind_by_names}
 use Rattle.handlebars_layers.specs.Members.{AllKeyed, AllMembers, IsMember, has_keys}
 use Rattle.handlebars_layers.proofs.Nodes.{layer-there, leads, leads-of}
 
@@ -145,9 +145,9 @@ value-there d v names is = subst (λ all. IsValue (value_at d all) v) (sym (appe
 module _ (d v : Data) (start outer : Chain) (n : ℕ) (names : List Text) (block : BlockNames)
     (is : IsValue (value_at d (names_from start n names)) v) (started : NodesAreThere d start) (around : NodesAreThere d outer) where
   pub iteration-there : (t : Iteration) → IsMember v t
-      → NodesAreThere d (node_layer t.member start n names (kind_of_iteration block t) outer)
+      → NodesAreThere d (node_layer t.member start n names (iteration_kind_by_names block t) outer)
   iteration-there t leads_on =
-      layer-there d t.member start outer n names (kind_of_iteration block t) (member-there d v (names_from start n names) t is leads_on)
+      layer-there d t.member start outer n names (iteration_kind_by_names block t) (member-there d v (names_from start n names) t is leads_on)
       started around
 
   pub with-there : NodesAreThere d (node_layer v start n names (with_layer block) outer)

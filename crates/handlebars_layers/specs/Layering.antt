@@ -19,11 +19,11 @@ bound_names (single p) = with_or (single_name (single p)) one unnamed
 bound_names (both p q) = with_or (both_names (both p q)) (λ names. two names.0 names.1) unnamed
 
 -- what the layer of an iteration is made for, with the names that its block binds
-abbrev pub kind_of_iteration : BlockNames → Iteration → LayerKind
-kind_of_iteration names t = iteration_layer t.index t.key t.last names
+abbrev pub iteration_kind_by_names : BlockNames → Iteration → LayerKind
+iteration_kind_by_names names t = iteration_layer t.index t.key t.last names
 
 abbrev pub iteration_kind : Binding → Iteration → LayerKind
-iteration_kind binding t = kind_of_iteration (bound_names binding) t
+iteration_kind binding t = iteration_kind_by_names (bound_names binding) t
 
 -- The layer of an iteration over what has this path, if it has one, is the frame of `each` as it is set up for the first
 -- iteration.

@@ -145,11 +145,11 @@ impl<'r> LayerKind<'r> {
     ghost use Rattle.std.specs.Prelude.{◌≡◌};
     ghost use Rattle.handlebars_helpers.specs.View.{iteration_view};
     ghost use Rattle.handlebars_layers.specs.LayerView.{kind_view, names_seen};
-    ghost use Rattle.handlebars_layers.specs.Layering.{kind_of_iteration};
+    ghost use Rattle.handlebars_layers.specs.Layering.{iteration_kind_by_names};
 
     /// Creates the kind of an iteration's layer, which binds these names.
     pub fn iteration(iteration: Iteration<'r>, names: &'r BlockNames<'r>) -> LayerKind<'r>
-        ensures { kind_view result ≡ kind_of_iteration (names_seen names.now) (iteration_view iteration.entry) }
+        ensures { kind_view result ≡ iteration_kind_by_names (names_seen names.now) (iteration_view iteration.entry) }
     {
         LayerKind::Iteration {
             index: iteration.index,
