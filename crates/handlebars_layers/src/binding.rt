@@ -13,8 +13,8 @@ use crate::layer::{BlockNames, LayerKind};
 use handlebars_template::template::{BlockParam, Parameter};
 use std::collections::BTreeMap;
 
-/// Returns the names that a block binds. Only a hand-built template has parameters there that are no names, and those bind
-/// nothing: not even the name beside one of them.
+/// Returns the names that a block binds. A parameter that is not a name binds nothing; if one of two is not a name, the block
+/// binds neither. Only hand-built templates have such parameters.
 pub fn block_names<'r>(binding: Option<&'r BlockParam>) -> BlockNames<'r>
     ensures { names_seen result ≡ bound_names (binding_of (option_map (λ b. binding_view b.now) binding.entry)) }
 {
@@ -50,8 +50,8 @@ impl<'r> LayerKind<'r> {
     ghost use Rattle.handlebars_layers.specs.Binding.{kind_binds};
     ghost use Rattle.handlebars_layers.specs.LayerView.{kind_view};
 
-    /// Returns whether a layer of this kind binds a name.
-    pub fn binds(self) -> bool
+    // Returns whether a layer of this kind binds a name.
+    pub(crate) fn binds(self) -> bool
         ensures { result ≡ kind_binds (kind_view self.entry) }
     {
         match self {
