@@ -1,4 +1,4 @@
--- Entering layers among the scope frames of a run is what the constructs of templates do with scope frames.
+-- Each construct's scope frame is the layer that it enters.
 use Rattle.std.specs.Prelude.{◌≡◌, ℕ, List, ◌∷◌, Some, None, is_some}
 use Rattle.serde_json.specs.Data.{Data}
 use Rattle.handlebars_base.specs.Bytes.{Text}
@@ -21,7 +21,7 @@ EntersIterations new old c start n names binding t = IsEntered new old c
     × (scope_frames new (value_layer t.member (iteration_kind binding t) c)
     ≡ nearest_as (iteration_frame None binding t) (empty_frame ∷ scope_frames old c))
 
--- A later iteration sets up the frame of the one before it, which keeps the partials that were set in it. All members of an
+-- A later iteration sets up the frame of the one before it. The partials that were set in it are unchanged. All members of an
 -- object have a key, and no item of an array.
 abbrev pub EntersNextIteration : ByDepth → Chain → Chain → ℕ → List Text → Binding → Iteration → Iteration → Type 0
 EntersNextIteration at c start n names binding before t = is_some before.key ≡ is_some t.key

@@ -77,7 +77,7 @@ pub record IsEntered (new : ByDepth) (old : ByDepth) (c : Chain) : Type 0 where
       → scope_frames new (value_layer v kind c) ≡ kind_frame (at_value v) kind (scope_frames old c) ∷ scope_frames old c
   pub made : (f : Frame) → scope_frames new (frame_layer f c) ≡ set_partials nothing_at f ∷ scope_frames old c
 
--- Nothing has a greater depth than the layer, and what has not is as it was.
+-- If nothing is set at the next depth and nothing changed up to this one, a layer is entered.
 abbrev pub EntersWithNone : ByDepth → ByDepth → Chain → Type 0
 EntersWithNone new old c = ((d : ℕ) → d ≤ layer_depth c → new d ≡ old d) → new (suc (layer_depth c)) ≡ nothing_at → IsEntered new old c
 

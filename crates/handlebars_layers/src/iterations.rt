@@ -33,7 +33,7 @@ fn iterations_of_items<'h>(items: &'h Vec<Json>) -> Iterations<'h>
     Iterations::of_items(items)
 }
 
-// Returns the iterations of an object. Its keys ascend, as every map says that is asked for its length, so each is there once.
+// Returns the iterations of an object. `Map::len` promises that keys ascend, so each occurs once; it is called for that promise.
 fn iterations_of_members<'h>(members: &'h Map<String, Json>) -> Iterations<'h>
     ensures iterations { iterations_left result ≡ iterations_of (object (members_view members.now.entries)) }
     ensures members { AllMembers (object (members_view members.now.entries))

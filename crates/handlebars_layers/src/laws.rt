@@ -35,7 +35,7 @@ pub fn partials_are_no_scope()
     ensures variables { (at : ByDepth) (c : Chain) → VariablesIgnorePartials at c }
 {}
 
-/// Partials are found, set and left by the depth of layers. A layer that is left leaves the frames around it.
+/// Partials are found and set by the depth of layers. Leaving a layer removes its frame and no other.
 pub fn partials_go_by_depth()
     ensures found { (at : ByDepth) (c : Chain) → FindsByDepth at c }
     ensures set { (new old : ByDepth) (c : Chain) (name : Text) (t : Tree) → SetsByDepth new old c name t }

@@ -10,7 +10,7 @@ use crate::layer::Layer;
 use handlebars_scope::block::BlockContext;
 use std::collections::VecDeque;
 
-/// Returns the frames from outside that are around a layer, or `None` if the outermost layer is that of no frame.
+/// Returns the frames from outside that are around a layer, or `None` if there are none.
 pub fn frames_outside<'r>(layer: &'r Layer<'r, '_>) -> Option<&'r VecDeque<BlockContext>>
     ensures { with_or result (λ frames. frames_of frames.now.items) [] ≡ frames_outside (chain_of layer.now) }
 {
@@ -36,9 +36,9 @@ pub fn count_outside<'r>(layer: &'r Layer<'r, '_>) -> usize
     }
 }
 
-/// Returns the nearest of the frames from outside that are left where so many are skipped.
-pub fn outside_frame(frames: &VecDeque<BlockContext>, skipped: usize) -> Option<&BlockContext>
-    ensures { option_map (λ b. frame_of b.now) result ≡ slice_get (frames_of frames.now.items) skipped }
+/// Returns the frame at this index, counted from the nearest.
+pub fn outside_frame(frames: &VecDeque<BlockContext>, index: usize) -> Option<&BlockContext>
+    ensures { option_map (λ b. frame_of b.now) result ≡ slice_get (frames_of frames.now.items) index }
 {
-    frames.get(skipped)
+    frames.get(index)
 }
