@@ -43,8 +43,8 @@ WritesTo w ps at_boolean_text sink outcome =
     WritesAsIs ps at_boolean_text w.may_give (held_in w sink.entry.now) (outcome_answer outcome) (held_in w sink.exit.now)
 
 -- The line is unchanged, unless the call succeeded.
-abbrev pub KeepsLine : Both (MutBor LineState) (MutBor LineState) → Outcome → Type 0
-KeepsLine line outcome = UnlessDone outcome (line.exit.now ≡ line.entry.now)
+abbrev pub IsLineUnchanged : Both (MutBor LineState) (MutBor LineState) → Outcome → Type 0
+IsLineUnchanged line outcome = UnlessDone outcome (line.exit.now ≡ line.entry.now)
 
 -- ---- outputs of text
 

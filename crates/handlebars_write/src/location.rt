@@ -1,7 +1,7 @@
 //! Where an element is, and what surrounds it.
 
 ghost use Rattle.std.specs.Prelude.{◌≡◌, IfOk};
-ghost use Rattle.handlebars_write.specs.LocationView.{iterations_of};
+ghost use Rattle.handlebars_write.specs.LocationView.{indexes_of};
 
 use handlebars_expand::pieces::TemplateReference;
 use handlebars_template::template::TemplateMapping;
@@ -25,7 +25,7 @@ impl IterationsAround<'_> {
     ///
     /// Fails if memory runs out.
     pub fn indexes(&self, alloc: Global) -> Result<Vec<usize>, AllocError>
-        ensures { IfOk result (λ indexes. indexes.items ≡ iterations_of self.now) }
+        ensures { IfOk result (λ indexes. indexes.items ≡ indexes_of self.now) }
     {
         match self {
             IterationsAround::None => Ok(Vec::new(alloc)),
