@@ -8,8 +8,8 @@ use handlebars_base::error::RenderError;
 use handlebars_expand::boxed::BoxedError;
 use std::alloc::AllocError;
 
-/// The outcome of a write or of a rendering: success, or an error. It takes two machine words, so it is returned in registers, which
-/// a `Result` with a `BoxedError` isn't.
+/// The outcome of a write or of a rendering: success, or an error. It takes two machine words, so it is returned in registers,
+/// which a `Result` with a `BoxedError` isn't.
 #[derive(Drop)]
 pub enum Outcome {
     Done,

@@ -54,8 +54,8 @@ pub fn indent_aware_write<O: Output>(
     }
 }
 
-/// Writes a value under the indentation in force, rendered, and if `escapes` is set escaped as the registry says. A caller passes
-/// null for a missing value, and nothing is written for it, unless a user-defined escape function answers otherwise.
+/// Writes a value under the indentation in force, rendered, and if `escapes` is set escaped as the registry says. A caller
+/// passes null for a missing value, and nothing is written for it, unless a user-defined escape function answers otherwise.
 ///
 /// # Errors
 ///

@@ -16,7 +16,11 @@ use std::io::ErrorKind;
 /// Returns the outcome that reports a write error, at a boolean helper's text or not.
 #[cold]
 #[inline(never)]
-pub(crate) fn write_error_outcome(alloc: Global, at_boolean_text: bool, write_error: io::Error) -> Outcome
+pub(crate) fn write_error_outcome(
+    alloc: Global,
+    at_boolean_text: bool,
+    write_error: io::Error,
+) -> Outcome
     ensures { Reports write_error at_boolean_text result }
 {
     if at_boolean_text {
