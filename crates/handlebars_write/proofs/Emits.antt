@@ -286,3 +286,19 @@ pub captured-emitted : (o : Origin) (t : Text) (k x : Emitted) (may : Error → 
     → WritesAsIs (one_piece o t) false may h r new
 captured-emitted o t k x may {h = h} {new = new} {r = r} is same emits = λ s. by-piece may false o t
     (subst (λ (z : Emitted). EmitsPiece z false may h r new) (same ∙ sym is) emits)
+
+-- ---- an empty text
+
+-- has no pieces
+no-pieces : (o : Origin) (indent : Option Text) (line : LineState) → [] ≡ pieces_put o indent [] line
+no-pieces o None line = refl
+no-pieces o (Some indent) line = refl
+
+-- so it is put by doing nothing
+pub empty-puts : (may : Error → Type 0) (o : Origin) (t : Text) (s : State) {indent : Option Text} {line : LineState} {h : Holding} {u : Unit {0}}
+    → s.indent ≡ indent → s.line ≡ line → t ≡ []
+    → Puts o t may (moment_at s h) (Ok u) (moment_at (with_line line s) h)
+empty-puts may o t s {indent = indent} {line = line} {h = h} {u = u} is same empty =
+    subst (λ (z : Text). Puts o z may (moment_at s h) (Ok u) (moment_at (with_line line s) h)) (sym empty)
+    (pieces-done may o [] s is same line refl
+    (subst (λ (ps : List Piece). WritesAsIs ps false may h (Ok u) h) (no-pieces o indent line) (writes-nil may false)))

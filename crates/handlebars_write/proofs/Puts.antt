@@ -26,7 +26,7 @@ use Rattle.handlebars_expand.specs.declared.ahead.Ahead as declared
 use Rattle.handlebars_expand.specs.declared.ahead.Captured.{Captured}
 use Rattle.handlebars_write.specs.View.{Answered, Holding, ReportsWriteError, boolean_text_reason, held_in, holding_ahead, emitted_if, moment_at, text_only, with_emitted}
 use Rattle.handlebars_write.specs.ModeView.{ModeView}
-use Rattle.handlebars_write.specs.OutcomeView.{Reports, no_memory, outcome_answer}
+use Rattle.handlebars_write.specs.OutcomeView.{Reports, memory_answer, outcome_answer}
 use Rattle.handlebars_write.specs.Writes.{AreSome, Puts, PutsText, WritesPieces, WritesAsIs, WritesText, all_written, prefix_written, part_written, text_truncated, text_part, text_written}
 use Rattle.handlebars_write.specs.declared.outcome.Outcome.{Outcome}
 use Rattle.handlebars_write.specs.declared.outcome.Outcome.TheVariants as outcomes
@@ -157,7 +157,7 @@ module _ (may : Error → Type 0) where
   text_failed t s next (outcomes.Error e) failed is written = (tt, text_as is written)
 
   -- nothing was written, when memory ran out
-  pub text-no_memory : (t : Text) (s next : State) (h : Holding) → PutsText t may (moment_at s h) no_memory (moment_at next h)
+  pub text-no_memory : (t : Text) (s next : State) (h : Holding) → PutsText t may (moment_at s h) memory_answer (moment_at next h)
   text-no_memory t s next h = (
     tt,
     text_part (record {
@@ -218,5 +218,5 @@ module _ (may : Error → Type 0) where
   -- ---- pieces
 
   -- none is written, when memory runs out
-  pub puts-no_memory : (o : Origin) (t : Text) (s next : State) (h : Holding) → Puts o t may (moment_at s h) no_memory (moment_at next h)
+  pub puts-no_memory : (o : Origin) (t : Text) (s next : State) (h : Holding) → Puts o t may (moment_at s h) memory_answer (moment_at next h)
   puts-no_memory o t s next h = part_written none (gains-none h) refl refl

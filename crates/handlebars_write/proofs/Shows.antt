@@ -18,8 +18,7 @@ use Rattle.handlebars_semantics.specs.Steps.{ask}
 use Rattle.handlebars_semantics.specs.Emitted.{escaped_value, provenance, raw_value}
 use Rattle.handlebars_semantics.specs.Writing.{rendered_if_any, write_rendered, write_text, write_value}
 use Rattle.handlebars_expand.specs.Boxed.{IsPropagated}
-use Rattle.handlebars_write.specs.Shows.{entities_by, value_origin}
-use Rattle.handlebars_write.specs.Emits.{value_kind}
+use Rattle.handlebars_write.specs.Shows.{entities_by, value_kind, value_origin}
 use Rattle.handlebars_write.specs.View.{Answered, RefinesProg, Holding, Moment, moment_at}
 use Rattle.handlebars_write.specs.Writes.{Puts}
 use Rattle.handlebars_expand.proofs.Asked.{gives-ask, fails-ask}

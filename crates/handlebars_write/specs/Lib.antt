@@ -3,6 +3,5 @@ pub mod View
 pub mod OutcomeView
 pub mod LocationView
 pub mod Writes
-pub mod Emits
 pub mod Shows
 pub mod ModeClauses

@@ -10,19 +10,19 @@ use Rattle.handlebars_write.specs.declared.location.IterationsAround.{Iterations
 use Rattle.handlebars_write.specs.declared.location.IterationsAround.TheOpen.{IterationsAround-F}
 
 -- the indexes of the iterations around an element, outermost first
-abbrev pub iterations_layer : IterationsAround-F (List ℕ) → List ℕ
-iterations_layer IterationsAround-F.None = []
-iterations_layer (IterationsAround-F.Within index outer) = outer.now ++ index ∷ []
+abbrev pub indexes_layer : IterationsAround-F (List ℕ) → List ℕ
+indexes_layer IterationsAround-F.None = []
+indexes_layer (IterationsAround-F.Within index outer) = outer.now ++ index ∷ []
 
-abbrev pub iterations_of : IterationsAround → List ℕ
-iterations_of = fold-IterationsAround _ iterations_layer
+abbrev pub indexes_of : IterationsAround → List ℕ
+indexes_of = fold-IterationsAround _ indexes_layer
 
 -- where the element is: its position is the one that its tree has at its index, if the tree has one there
 abbrev pub whereabouts_in : ElementLocation → Whereabouts
 whereabouts_in x = record {
   around = record {
     template = template_seen x.surroundings.now.template;
-    iterations = iterations_of x.surroundings.now.iterations.now;
+    iterations = indexes_of x.surroundings.now.iterations.now;
   };
   position = slice_get (map position_of x.surroundings.now.mapping.now.items) x.index;
 }

@@ -43,8 +43,8 @@ WritesTo w ps at_boolean_text sink outcome =
     WritesAsIs ps at_boolean_text w.may_give (held_in w sink.entry.now) (outcome_answer outcome) (held_in w sink.exit.now)
 
 -- The line is unchanged, unless the call succeeded.
-abbrev pub KeepsLine : Both (MutBor LineState) (MutBor LineState) → Outcome → Type 0
-KeepsLine line outcome = UnlessDone outcome (line.exit.now ≡ line.entry.now)
+abbrev pub IsLineUnchanged : Both (MutBor LineState) (MutBor LineState) → Outcome → Type 0
+IsLineUnchanged line outcome = UnlessDone outcome (line.exit.now ≡ line.entry.now)
 
 -- ---- outputs of text
 
@@ -58,7 +58,7 @@ abbrev pub WritesTextTo : {O T : Type 0} → ModeView O → Text → Bool → Bo
 WritesTextTo w t at_boolean_text sink outcome =
     WritesText t at_boolean_text w.may_give (held_in w sink.entry.now) (outcome_answer outcome) (held_in w sink.exit.now)
 
--- A text was put to such a sink, with this indentation in force.
+-- A text was put to a sink of which no piece is received, with this indentation in force.
 abbrev pub PutsTextIn : {O T : Type 0} → ModeView O → Option Text → Text → Both (MutBor LineState) (MutBor LineState)
     → Both (MutBor (Sink O T)) (MutBor (Sink O T)) → Outcome → Type 0
 PutsTextIn w indent text line sink outcome = InLine w indent line sink outcome (PutsText text w.may_give)

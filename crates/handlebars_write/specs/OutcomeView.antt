@@ -9,13 +9,13 @@ use Rattle.handlebars_write.specs.declared.outcome.Outcome.{Outcome}
 use Rattle.handlebars_write.specs.declared.outcome.Outcome.TheVariants.{Done, OutOfMemory, Error}
 
 -- the answer of a call that is out of memory
-abbrev pub no_memory : Answered
-no_memory = Err (error_of boxed.OutOfMemory)
+abbrev pub memory_answer : Answered
+memory_answer = Err (error_of boxed.OutOfMemory)
 
 -- the answer of a call that returns the outcome
 abbrev pub outcome_answer : Outcome → Answered
 outcome_answer Done = Ok tt
-outcome_answer OutOfMemory = no_memory
+outcome_answer OutOfMemory = memory_answer
 outcome_answer (Error e) = Err e.value
 
 -- The fact holds, unless this is success.

@@ -7,6 +7,7 @@ use Rattle.handlebars_base.specs.Bytes.{Text}
 use Rattle.handlebars_base.specs.Scoped.{Found, path_in}
 use Rattle.handlebars_helpers.specs.Escaping.{Escaping, for_html, for_plain, by_user}
 use Rattle.handlebars_scope.specs.declared.line.LineState.{LineState}
+use Rattle.handlebars_semantics.specs.Emitted.{Kind, escaped_value, raw_value}
 use Rattle.handlebars_semantics.specs.Pieces.{Origin, of_raw, of_value}
 use Rattle.handlebars_semantics.specs.Occurrences.{Occurrence}
 use Rattle.handlebars_semantics.specs.State.{Parts}
@@ -18,6 +19,11 @@ use Rattle.handlebars_write.specs.View.{RefinesProg}
 use Rattle.handlebars_write.specs.declared.location.ElementLocation.{ElementLocation}
 use Rattle.handlebars_write.specs.declared.outcome.Outcome.{Outcome}
 use Rattle.handlebars_write.specs.declared.sink.Sink.{Sink}
+
+-- the kind of the pieces of a value, where escaping is on or off
+abbrev pub value_kind : Bool → Kind
+value_kind true = escaped_value
+value_kind false = raw_value
 
 -- the origin of a value that is written escaped, or as it is
 abbrev pub value_origin : Occurrence → Found → Bool → Origin

@@ -83,7 +83,7 @@ pub data WritesPieces (ps : List Piece) (at_boolean_text : Bool) (next : State) 
 abbrev pub Puts : Origin → Text → (Error → Type 0) → Moment → Answered → Moment → Type 0
 Puts o t may before = WritesPieces (put o before.state.indent t before.state.line).0 false (state_after t before.state) may before.held
 
--- The same for the text alone.
+-- A text was written, with the indentation in force, and the state of the line is updated. Of pieces nothing is said.
 abbrev pub PutsText : Text → (Error → Type 0) → Moment → Answered → Moment → Type 0
 PutsText t may before r after =
     MatchResult r (λ _. after.state ≡ state_after t before.state) (λ _. Unit {0})

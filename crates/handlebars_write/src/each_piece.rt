@@ -9,10 +9,10 @@ ghost use Rattle.handlebars_semantics.specs.Emitted.{emitted, provenance};
 ghost use Rattle.handlebars_semantics.specs.Pieces as meaning;
 ghost use Rattle.handlebars_semantics.specs.Pieces.{Piece, indent_pieces, pieces_between, pieces_of, pieces_put};
 ghost use Rattle.handlebars_expand.specs.PiecesView.{captured_emitted, emitted_seen, kind_seen, location_seen, origin_seen};
-ghost use Rattle.handlebars_write.specs.Emits.{value_kind};
-ghost use Rattle.handlebars_write.specs.LocationView.{iterations_of, provenance_in, whereabouts_in};
-ghost use Rattle.handlebars_write.specs.ModeClauses.{EmitsTo, InLine, KeepsLine, PutsFrom, WritesFrom, WritesTo};
+ghost use Rattle.handlebars_write.specs.LocationView.{indexes_of, provenance_in, whereabouts_in};
+ghost use Rattle.handlebars_write.specs.ModeClauses.{EmitsTo, InLine, IsLineUnchanged, PutsFrom, WritesFrom, WritesTo};
 ghost use Rattle.handlebars_write.specs.ModeView.{piece_mode};
+ghost use Rattle.handlebars_write.specs.Shows.{value_kind};
 ghost use Rattle.handlebars_write.specs.View.{IsSame};
 ghost use Rattle.handlebars_write.specs.Writes.{Puts};
 
@@ -21,7 +21,7 @@ use crate::outcome::Outcome;
 use crate::output_mode::{OutputMode, boolean_text};
 use crate::sink::Sink;
 use crate::value_path::{NoPath, ValuePath};
-use crate::write_error::reported;
+use crate::write_error::write_error_outcome;
 use handlebars_base::json::value::{Json, JsonRender};
 use handlebars_base::support::escape_html;
 use handlebars_expand::ahead::Captured;
@@ -105,7 +105,8 @@ impl<O: PieceOutput> OutputMode<O> for EachPiece {
 
 // ---- from the location of an element
 
-// Emits the pieces of a text of this kind, under the indentation in force, and updates the state of the line.
+// Emits the pieces of a text of this kind, under the indentation in force, and updates the state of the line. For an empty text
+// nothing is allocated.
 #[inline(never)]
 fn put<O: PieceOutput, L: ValuePath>(
     at: ElementLocation<'_>,
@@ -117,8 +118,11 @@ fn put<O: PieceOutput, L: ValuePath>(
 ) -> Outcome
     ensures puts { PutsFrom (piece_mode O.received O.may_give) at.entry (kind_seen kind) (L.names path.now) text.now line sink result }
     ensures same { IsSame sink.old sink.new }
-    ensures unchanged { KeepsLine line result }
+    ensures unchanged { IsLineUnchanged line result }
 {
+    if text.is_empty() {
+        return Outcome::Done;
+    }
     let alloc = at.surroundings.alloc;
     let Ok(iterations) = at.surroundings.iterations.indexes(alloc) else {
         return Outcome::OutOfMemory;
@@ -143,7 +147,7 @@ fn put_shown<O: PieceOutput, L: ValuePath>(
     ensures puts { PutsFrom (piece_mode O.received O.may_give) at.entry (value_kind escapes) (L.names path.now)
         (escaped_if entities text.now) line sink result }
     ensures same { IsSame sink.old sink.new }
-    ensures unchanged { KeepsLine line result }
+    ensures unchanged { IsLineUnchanged line result }
 {
     if !entities {
         return put(at, value_kind(escapes), text, path, line, sink);
@@ -193,7 +197,7 @@ fn origin<'p>(
     iterations: &'p [usize],
     names: &'p Option<Vec<String>>,
 ) -> Origin<'p>
-    ensures { iterations.now ≡ iterations_of at.entry.surroundings.now.iterations.now
+    ensures { iterations.now ≡ indexes_of at.entry.surroundings.now.iterations.now
         → origin_seen result ≡ provenance_in at.entry (kind_seen kind) (option_map (λ ns. names_in ns.items) names.now) }
 {
     Origin {
@@ -205,7 +209,7 @@ fn origin<'p>(
 
 // The location of an element, with the indexes of the iterations around it.
 fn location<'p>(at: ElementLocation<'p>, iterations: &'p [usize]) -> Location<'p>
-    ensures { iterations.now ≡ iterations_of at.entry.surroundings.now.iterations.now → location_seen result ≡ whereabouts_in at.entry }
+    ensures { iterations.now ≡ indexes_of at.entry.surroundings.now.iterations.now → location_seen result ≡ whereabouts_in at.entry }
 {
     Location {
         template: at.surroundings.template,
@@ -228,7 +232,7 @@ fn put_from<O: PieceOutput>(
     ensures puts { (o : meaning.Origin) → provenance o ≡ origin_seen origin.now
         → InLine (piece_mode O.received O.may_give) (option_map (λ t. t.now) indent.entry) line sink result (Puts o text.now O.may_give) }
     ensures same { IsSame sink.old sink.new }
-    ensures unchanged { KeepsLine line result }
+    ensures unchanged { IsLineUnchanged line result }
 {
     match emit_put(alloc, indent, *line, text, origin, sink) {
         Outcome::Done => {
@@ -389,7 +393,7 @@ fn emit<O: PieceOutput>(
     match sink {
         Sink::Out(out, _) => match out.piece(text, origin) {
             Ok(()) => Outcome::Done,
-            Err(write_error) => reported(alloc, at_boolean_text, write_error),
+            Err(write_error) => write_error_outcome(alloc, at_boolean_text, write_error),
         },
         Sink::Ahead(ahead) => match ahead.capture(alloc, text, origin) {
             Ok(()) => Outcome::Done,

@@ -1,7 +1,7 @@
 //! Where an element is, and what surrounds it.
 
 ghost use Rattle.std.specs.Prelude.{◌≡◌, IfOk};
-ghost use Rattle.handlebars_write.specs.LocationView.{iterations_of};
+ghost use Rattle.handlebars_write.specs.LocationView.{indexes_of};
 
 use handlebars_expand::pieces::TemplateReference;
 use handlebars_template::template::TemplateMapping;
@@ -10,6 +10,7 @@ use std::alloc::{AllocError, Global};
 /// The iterations of `each` around an element, innermost first.
 #[derive(Clone, Copy)]
 pub enum IterationsAround<'r> {
+    /// No iteration is around the element.
     None,
     /// The iteration over the member of this index, from 0, and those around it.
     Within {
@@ -25,27 +26,29 @@ impl IterationsAround<'_> {
     ///
     /// Fails if memory runs out.
     pub fn indexes(&self, alloc: Global) -> Result<Vec<usize>, AllocError>
-        ensures { IfOk result (λ indexes. indexes.items ≡ iterations_of self.now) }
+        ensures { IfOk result (λ indexes. indexes.items ≡ indexes_of self.now) }
     {
-        match self {
-            IterationsAround::None => Ok(Vec::new(alloc)),
-            IterationsAround::Within { index, outer } => {
-                let mut indexes = outer.indexes(alloc)?;
-                indexes.push(*index)?;
-                Ok(indexes)
-            }
+        let mut indexes = Vec::new(alloc);
+        let mut around = self;
+        'outwards: while let IterationsAround::Within { index, outer } = around {
+            indexes.push(*index)?;
+            around = outer;
         }
+        indexes.reverse();
+        Ok(indexes)
     }
 }
 
 /// What surrounds the elements of a tree as they write.
 #[derive(Clone, Copy)]
 pub struct Surroundings<'r> {
+    /// The allocator of the rendering.
     pub alloc: Global,
     /// The indentation in force, if there is one.
     pub indent: Option<&'r str>,
     /// The template that contains the tree.
     pub template: TemplateReference<'r>,
+    /// The iterations of `each` around the elements of the tree.
     pub iterations: &'r IterationsAround<'r>,
     /// The positions of the elements of the tree.
     pub mapping: &'r Vec<TemplateMapping>,

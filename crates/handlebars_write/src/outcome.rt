@@ -1,15 +1,15 @@
-//! What a write or a rendering came to.
+//! The outcome of a write or of a rendering.
 
 ghost use Rattle.std.specs.Prelude.{◌≡◌, Err};
 ghost use Rattle.handlebars_expand.specs.Boxed.{answer_of, error_of};
-ghost use Rattle.handlebars_write.specs.OutcomeView.{no_memory, outcome_answer};
+ghost use Rattle.handlebars_write.specs.OutcomeView.{memory_answer, outcome_answer};
 
 use handlebars_base::error::RenderError;
 use handlebars_expand::boxed::BoxedError;
 use std::alloc::AllocError;
 
-/// What a write or a rendering came to: success, or an error. It takes two machine words, so it is returned in registers, which
-/// a `Result` with a `BoxedError` isn't.
+/// The outcome of a write or of a rendering: success, or an error. It takes two machine words, so it is returned in registers,
+/// which a `Result` with a `BoxedError` isn't.
 #[derive(Drop)]
 pub enum Outcome {
     Done,
@@ -55,7 +55,7 @@ impl From<BoxedError> for Outcome {
 }
 
 impl From<AllocError> for Outcome {
-    ghost from_gives = { λ _ outcome. outcome_answer outcome ≡ no_memory };
+    ghost from_gives = { λ _ outcome. outcome_answer outcome ≡ memory_answer };
 
     #[inline(always)]
     fn from(_e: AllocError) -> Outcome {

@@ -8,10 +8,10 @@ ghost use Rattle.handlebars_semantics.specs.Emitted.{escaped_value, template_tex
 ghost use Rattle.handlebars_semantics.specs.Occurrences.{Occurrence};
 ghost use Rattle.handlebars_semantics.specs.Pieces.{Piece, of_boolean_text, of_step, pieces_of};
 ghost use Rattle.handlebars_expand.specs.View.{AreCaptured};
-ghost use Rattle.handlebars_write.specs.Emits.{value_kind};
 ghost use Rattle.handlebars_write.specs.LocationView.{IsAt};
 ghost use Rattle.handlebars_write.specs.ModeView.{ModeView};
-ghost use Rattle.handlebars_write.specs.ModeClauses.{KeepsLine, PutsFrom, WritesTo};
+ghost use Rattle.handlebars_write.specs.ModeClauses.{IsLineUnchanged, PutsFrom, WritesTo};
+ghost use Rattle.handlebars_write.specs.Shows.{value_kind};
 ghost use Rattle.handlebars_write.specs.View.{IsSame};
 
 use crate::location::ElementLocation;
@@ -25,8 +25,10 @@ use std::alloc::Global;
 
 /// How a rendering writes to outputs of a type: as texts alone, or as pieces. Each mode writes the same texts.
 ///
-/// Each method fails if the output does, or if memory runs out. A prefix of the text may then have been written. The state of
-/// the line is then unchanged.
+/// # Errors
+///
+/// Each method fails if the output does, or if memory runs out; on failure a prefix may have been written, and the line is
+/// unchanged.
 pub trait OutputMode<O>: Sized {
     ghost mode: { ModeView O };
 
@@ -39,10 +41,10 @@ pub trait OutputMode<O>: Sized {
     ) -> Outcome
         ensures puts { PutsFrom mode at.entry template_text None text.now line sink result }
         ensures same { IsSame sink.old sink.new }
-        ensures unchanged { KeepsLine line result };
+        ensures unchanged { IsLineUnchanged line result };
 
-    /// Writes a value, rendered, with entities if `entities` is set, under the indentation in force. Its pieces are those of an
-    /// escaped value if `escapes` is set, otherwise of a raw one.
+    /// Writes a value, rendered, with entities if `entities` is set, under the indentation in force. Its pieces have the
+    /// kind `EscapedValue` if `escapes` is set, otherwise `RawValue`.
     fn put_value<L: ValuePath>(
         at: ElementLocation<'_>,
         entities: bool,
@@ -54,7 +56,7 @@ pub trait OutputMode<O>: Sized {
     ) -> Outcome
         ensures puts { PutsFrom mode at.entry (value_kind escapes) (L.names path.now) (shown entities (view value.now)) line sink result }
         ensures same { IsSame sink.old sink.new }
-        ensures unchanged { KeepsLine line result };
+        ensures unchanged { IsLineUnchanged line result };
 
     /// Writes what a user-defined escape function answered for a value, under the indentation in force.
     fn put_escaped<L: ValuePath>(
@@ -66,9 +68,10 @@ pub trait OutputMode<O>: Sized {
     ) -> Outcome
         ensures puts { PutsFrom mode at.entry escaped_value (L.names path.now) text.now line sink result }
         ensures same { IsSame sink.old sink.new }
-        ensures unchanged { KeepsLine line result };
+        ensures unchanged { IsLineUnchanged line result };
 
-    /// Writes the text of a boolean helper as it is, whatever the state of the line. A write error is reported by its text.
+    /// Writes the text of a boolean helper as it is, whatever the state of the line. A write error is reported as
+    /// `Other`.
     fn put_boolean(at: ElementLocation<'_>, boolean: bool, sink: &mut Sink<'_, O, Self>) -> Outcome
         ensures writes { (occurrence : Occurrence) → IsAt mode.asks at.entry occurrence
             → WritesTo mode (record { origin = of_boolean_text occurrence boolean; text = values.boolean_text boolean } ∷ []) true sink result }

@@ -6,7 +6,7 @@ ghost use Rattle.handlebars_base.specs.Shown.{escaped_if, shown};
 ghost use Rattle.handlebars_scope.specs.Indentation.{written_in};
 ghost use Rattle.handlebars_scope.specs.LineView.{line_of};
 ghost use Rattle.handlebars_write.specs.LocationView.{indent_in};
-ghost use Rattle.handlebars_write.specs.ModeClauses.{KeepsLine, PutsTextIn, WritesTextTo};
+ghost use Rattle.handlebars_write.specs.ModeClauses.{IsLineUnchanged, PutsTextIn, WritesTextTo};
 ghost use Rattle.handlebars_write.specs.ModeView.{text_mode};
 ghost use Rattle.handlebars_write.specs.View.{IsSame};
 
@@ -103,7 +103,7 @@ fn put<O: Output>(
 ) -> Outcome
     ensures puts { PutsTextIn (text_mode O.held O.may_give) (indent_in at.entry) text.now line sink result }
     ensures same { IsSame sink.old sink.new }
-    ensures unchanged { KeepsLine line result }
+    ensures unchanged { IsLineUnchanged line result }
 {
     match at.surroundings.indent {
         None => match write_as_is(at.surroundings.alloc, false, text, sink) {
@@ -130,7 +130,7 @@ fn put_under<O: Output>(
 ) -> Outcome
     ensures puts { PutsTextIn (text_mode O.held O.may_give) (Some indent.now) (escaped_if entities text.now) line sink result }
     ensures same { IsSame sink.old sink.new }
-    ensures unchanged { KeepsLine line result }
+    ensures unchanged { IsLineUnchanged line result }
 {
     match write_indented(alloc, *line, indent, entities, text, sink) {
         Outcome::Done => {
@@ -153,7 +153,7 @@ fn show<O: Output>(
 ) -> Outcome
     ensures puts { PutsTextIn (text_mode O.held O.may_give) None (shown entities (view value.now)) line sink result }
     ensures same { IsSame sink.old sink.new }
-    ensures unchanged { KeepsLine line result }
+    ensures unchanged { IsLineUnchanged line result }
 {
     match show_as_is(alloc, entities, value, sink) {
         Outcome::Done => {
@@ -176,7 +176,7 @@ fn show_under<O: Output>(
 ) -> Outcome
     ensures puts { PutsTextIn (text_mode O.held O.may_give) (Some indent.now) (shown entities (view value.now)) line sink result }
     ensures same { IsSame sink.old sink.new }
-    ensures unchanged { KeepsLine line result }
+    ensures unchanged { IsLineUnchanged line result }
 {
     match value {
         Json::String(text) => put_under(alloc, indent, entities, text.as_str(), line, sink),

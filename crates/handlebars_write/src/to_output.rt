@@ -10,7 +10,7 @@ ghost use Rattle.handlebars_scope.specs.LineView.{line_of};
 ghost use Rattle.handlebars_write.specs.ModeClauses.{TextWritten};
 
 use crate::outcome::Outcome;
-use crate::write_error::reported;
+use crate::write_error::write_error_outcome;
 use handlebars_base::json::value::{Json, write_value};
 use handlebars_base::output::Output;
 use handlebars_base::support::write_escaped;
@@ -18,7 +18,7 @@ use handlebars_scope::indentation::write_in_line;
 use handlebars_scope::line::LineState;
 use std::alloc::Global;
 
-/// Writes a text: the text of a boolean helper, whose write error is reported by its text, or another text.
+/// Writes a text: the text of a boolean helper, whose write error is reported as `Other`, or another text.
 #[inline(always)]
 pub(crate) fn write_to<O: Output>(
     alloc: Global,
@@ -30,7 +30,7 @@ pub(crate) fn write_to<O: Output>(
 {
     match out.write(text) {
         Ok(()) => Outcome::Done,
-        Err(write_error) => reported(alloc, at_boolean_text, write_error),
+        Err(write_error) => write_error_outcome(alloc, at_boolean_text, write_error),
     }
 }
 
@@ -54,7 +54,7 @@ pub(crate) fn show_to<O: Output>(
         }
         _ => match write_value(out, value, entities) {
             Ok(()) => Outcome::Done,
-            Err(write_error) => reported(alloc, false, write_error),
+            Err(write_error) => write_error_outcome(alloc, false, write_error),
         },
     }
 }
@@ -66,7 +66,7 @@ fn escape_to<O: Output>(alloc: Global, text: &str, out: &mut O) -> Outcome
 {
     match write_escaped(out, text) {
         Ok(()) => Outcome::Done,
-        Err(write_error) => reported(alloc, false, write_error),
+        Err(write_error) => write_error_outcome(alloc, false, write_error),
     }
 }
 
@@ -84,6 +84,6 @@ pub(crate) fn indent_to<O: Output>(
 {
     match write_in_line(line, text, indent, entities, out) {
         Ok(()) => Outcome::Done,
-        Err(write_error) => reported(alloc, false, write_error),
+        Err(write_error) => write_error_outcome(alloc, false, write_error),
     }
 }

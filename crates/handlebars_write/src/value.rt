@@ -1,7 +1,6 @@
-//! Writing values, escaped as the registry says, and texts for helpers that are written by hand.
+//! Writing values, escaped as the registry says, and texts for user-defined helpers.
 
-ghost use Rattle.std.specs.Prelude.{◌≡◌, None, OnErr, Some, string_bytes, true};
-ghost use Rattle.serde_json.specs.Data.{null};
+ghost use Rattle.std.specs.Prelude.{◌≡◌, None, OnErr, string_bytes, true};
 ghost use Rattle.serde_json.specs.View.{view};
 ghost use Rattle.handlebars_base.specs.Scoped.{present_in};
 ghost use Rattle.handlebars_base.specs.Values.{rendered};
@@ -12,7 +11,7 @@ ghost use Rattle.handlebars_scope.specs.LineView.{line_of};
 ghost use Rattle.handlebars_semantics.specs.State.{State};
 ghost use Rattle.handlebars_semantics.specs.Writing.{rendered_if_any};
 ghost use Rattle.handlebars_expand.specs.View.{with_line};
-ghost use Rattle.handlebars_write.specs.ModeClauses.{KeepsLine};
+ghost use Rattle.handlebars_write.specs.ModeClauses.{IsLineUnchanged};
 ghost use Rattle.handlebars_write.specs.Shows.{ShowsValue, entities_by};
 ghost use Rattle.handlebars_write.specs.View.{IsSame, moment_at, text_only};
 ghost use Rattle.handlebars_write.specs.Writes.{PutsText};
@@ -55,33 +54,15 @@ pub fn indent_aware_write<O: Output>(
     }
 }
 
-/// Writes a value under the indentation in force, rendered, and if `escapes` is set escaped as the registry says. A missing value
-/// is written as null.
+/// Writes a value under the indentation in force, rendered, and if `escapes` is set escaped as the registry says. A caller
+/// passes null for a missing value, and nothing is written for it, unless a user-defined escape function answers otherwise.
 ///
-/// Fails if the user-defined escape function or the output does, or if memory runs out. A prefix of the text may then have been
-/// written. The state of the line is then unchanged.
+/// # Errors
+///
+/// Fails if the user-defined escape function or the output does, or if memory runs out; on failure a prefix may have been
+/// written, and the line is unchanged.
 #[inline(always)]
 pub fn write_value<O, T: OutputMode<O>, P: Registered, L: ValuePath>(
-    parts: &P,
-    at: ElementLocation<'_>,
-    escapes: bool,
-    value: &Json,
-    path: &L,
-    line: &mut LineState,
-    sink: &mut Sink<'_, O, T>,
-) -> Outcome
-    ensures shows { ShowsValue (P.parts parts.now) T.mode at.entry escapes (λ found. present_in found ≡ Some (view value.now)) (L.names path.now) line sink result }
-    ensures shows_missing { view value.now ≡ null
-        → ShowsValue (P.parts parts.now) T.mode at.entry escapes (λ found. present_in found ≡ None) (L.names path.now) line sink result }
-    ensures same { IsSame sink.old sink.new }
-    ensures unchanged { KeepsLine line result }
-{
-    show(parts, at, escapes, value, path, line, sink)
-}
-
-// Writes a value that renders as a value that was found does.
-#[inline(always)]
-fn show<O, T: OutputMode<O>, P: Registered, L: ValuePath>(
     parts: &P,
     at: ElementLocation<'_>,
     escapes: bool,
@@ -93,7 +74,7 @@ fn show<O, T: OutputMode<O>, P: Registered, L: ValuePath>(
     ensures shows { ShowsValue (P.parts parts.now) T.mode at.entry escapes
         (λ found. rendered_if_any (present_in found) ≡ rendered (view value.now)) (L.names path.now) line sink result }
     ensures same { IsSame sink.old sink.new }
-    ensures unchanged { KeepsLine line result }
+    ensures unchanged { IsLineUnchanged line result }
 {
     match entities_by(parts.escape(), escapes) {
         Some(entities) => T::put_value(at, entities, escapes, value, path, line, sink),
@@ -126,7 +107,7 @@ fn show_by_user<O, T: OutputMode<O>, P: Registered, L: ValuePath>(
     ensures shows { by_user ≡ (P.parts parts.now).escape → ShowsValue (P.parts parts.now) T.mode at.entry true
         (λ found. rendered_if_any (present_in found) ≡ rendered (view value.now)) (L.names path.now) line sink result }
     ensures same { IsSame sink.old sink.new }
-    ensures unchanged { KeepsLine line result }
+    ensures unchanged { IsLineUnchanged line result }
 {
     match escaped(parts, at.surroundings.alloc, value) {
         Ok(text) => T::put_escaped(at, text.as_str(), path, line, sink),

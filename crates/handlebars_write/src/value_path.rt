@@ -20,7 +20,7 @@ pub trait ValuePath {
         ensures { IfOk result (λ path. option_map (λ ns. names_in ns.items) path ≡ names self.now) };
 }
 
-/// The path of a value that has none: one that a helper chose, or a literal.
+/// No path: for a literal or a value that a helper chose.
 #[derive(Clone, Copy)]
 pub struct NoPath;
 

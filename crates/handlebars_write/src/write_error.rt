@@ -1,4 +1,4 @@
-//! What a write error is reported as.
+//! The outcome of a write that failed.
 
 ghost use Rattle.std.specs.Prelude.{true};
 ghost use Rattle.handlebars_semantics.specs.Runs.{plain_write_error};
@@ -13,10 +13,14 @@ use std::alloc::Global;
 use std::io;
 use std::io::ErrorKind;
 
-/// Returns the error that reports a write error, at a boolean helper's text or not.
+/// Returns the outcome that reports a write error, at a boolean helper's text or not.
 #[cold]
 #[inline(never)]
-pub(crate) fn reported(alloc: Global, at_boolean_text: bool, write_error: io::Error) -> Outcome
+pub(crate) fn write_error_outcome(
+    alloc: Global,
+    at_boolean_text: bool,
+    write_error: io::Error,
+) -> Outcome
     ensures { Reports write_error at_boolean_text result }
 {
     if at_boolean_text {

@@ -8,8 +8,8 @@ returns-in-Ok-clause-emits g c = rw c.in-Out.is
 
 pub returns-in-Err-clause-emits : goal.returns-in-Err-clause-emits
 returns-in-Err-clause-emits g c = rw c.in-Out.is
-    (piece_reported _ _ _ g.O.PieceOutput.received c.in-Out.out.now c.piece.new.self c.in-Err.write_error c.reported.result c.in-Err.ensures.err
-    c.in-Err.ensures.given c.reported.ensures)
+    (piece_reported _ _ _ g.O.PieceOutput.received c.in-Out.out.now c.piece.new.self c.in-Err.write_error c.write_error_outcome.result c.in-Err.ensures.err
+    c.in-Err.ensures.given c.write_error_outcome.ensures)
 
 pub returns-in-Ok-capture-clause-emits : goal.returns-in-Ok-capture-clause-emits
 returns-in-Ok-capture-clause-emits g c = rw c.in-Ahead.is

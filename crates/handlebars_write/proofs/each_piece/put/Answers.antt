@@ -1,8 +1,14 @@
 use Rattle.std.proofs.Common.{ap, refl, sym, ◌∙◌}
 use Rattle.handlebars_expand.specs.PiecesView.{kind_seen}
 use Rattle.handlebars_write.specs.LocationView.{provenance_in}
+use Rattle.handlebars_scope.proofs.Indents.{is-empty}
+use Rattle.handlebars_write.proofs.Emits.{empty-puts}
 use Rattle.handlebars_write.proofs.Puts.{puts-no_memory}
 use Rattle.handlebars_write.proofs.each_piece.put.Goals as goal
+
+pub returns-then-is_empty-clause-puts : goal.returns-then-is_empty-clause-puts
+returns-then-is_empty-clause-puts g c = λ o is s indent same.
+    empty-puts _ o c.args.text.now s indent same (is-empty c.args.text.now (sym c.is_empty.ensures ∙ c.if-is_empty.true))
 
 pub returns-in_default-clause-puts : goal.returns-in_default-clause-puts
 returns-in_default-clause-puts g c = λ o is s indent same. puts-no_memory _ o c.args.text.now s _ _

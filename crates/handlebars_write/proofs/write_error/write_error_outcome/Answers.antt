@@ -3,7 +3,7 @@ use Rattle.handlebars_semantics.specs.Runs.{plain_write_error}
 use Rattle.handlebars_expand.specs.Boxed.{error_of}
 use Rattle.handlebars_write.proofs.Refinement.{propagated-write_error}
 use Rattle.handlebars_write.proofs.Puts.{reports_write_error}
-use Rattle.handlebars_write.proofs.write_error.reported.Goals as goal
+use Rattle.handlebars_write.proofs.write_error.write_error_outcome.Goals as goal
 
 pub returns-then-at_boolean_text : goal.returns-then-at_boolean_text
 returns-then-at_boolean_text c = rw (c.if-at_boolean_text.true, c.from.ensures)
