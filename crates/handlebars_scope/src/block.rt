@@ -8,13 +8,14 @@ ghost use Rattle.handlebars_base.specs.Bytes.{Text};
 ghost use Rattle.handlebars_template.specs.TreeView.{tree_view};
 ghost use Rattle.handlebars_scope.specs.Borrowing.{BorrowsPath, BorrowsVariables};
 ghost use Rattle.handlebars_scope.specs.Scopes.{bound_path, bound_value, empty_frame, nothing_at, put_at};
-ghost use Rattle.handlebars_scope.specs.ScopeView.{bound_of, bounds_of, frame_of, variables_of};
+ghost use Rattle.handlebars_scope.specs.ScopeView.{bound_of, bounds_of, frame_of, partials_named, variables_of};
 
 use crate::local_vars::LocalVars;
 use handlebars_base::json::value::Json;
 use handlebars_template::template::Template;
 use std::alloc::{AllocError, Global};
 use std::collections::BTreeMap;
+use std::mem;
 use std::rc::Rc;
 
 /// What a block binds a name to: a path below its base path, or a value.
@@ -99,7 +100,8 @@ impl BlockParams {
 
     // Returns whether no name is bound.
     fn is_empty(&self) -> bool
-        ensures { IsTrue result → bounds_of self.now ≡ nothing_at }
+        ensures none { IsTrue result → bounds_of self.now ≡ nothing_at }
+        ensures some { result ≡ false → (name : Text) × (is_some (bounds_of self.now name) ≡ true) }
     {
         self.data.is_empty()
     }
@@ -272,6 +274,22 @@ impl BlockContext {
         self.local_partials.is_empty()
     }
 
+    /// Returns the templates that are registered in this block by name. None is registered afterwards.
+    pub fn take_local_partials(&mut self) -> BTreeMap<String, Rc<Template>>
+        ensures taken { partials_named result ≡ (frame_of self.old).partial }
+        ensures left { frame_of self.new ≡ record (frame_of self.old) { partial = nothing_at } }
+    {
+        let none = BTreeMap::new(self.alloc);
+        mem::replace(&mut self.local_partials, none)
+    }
+
+    /// Registers these templates by name in this block, and no others.
+    pub fn set_local_partials(&mut self, partials: BTreeMap<String, Rc<Template>>)
+        ensures { frame_of self.new ≡ record (frame_of self.old) { partial = partials_named partials } }
+    {
+        self.local_partials = partials;
+    }
+
     /// Registers a template under a name in this block.
     ///
     /// # Errors
@@ -297,6 +315,14 @@ impl BlockContext {
         ensures { option_map (λ b. bound_of b.now) result ≡ (frame_of self.now).bound name.now }
     {
         self.block_params.get(name)
+    }
+
+    /// Returns whether this block binds no name.
+    pub fn has_no_bound_names(&self) -> bool
+        ensures none { IsTrue result → (frame_of self.now).bound ≡ nothing_at }
+        ensures some { result ≡ false → (name : Text) × (is_some ((frame_of self.now).bound name) ≡ true) }
+    {
+        self.block_params.is_empty()
     }
 
     /// Removes all bindings of names.
