@@ -1,7 +1,8 @@
 -- The entries after the rows of a table are inserted.
-use Rattle.std.proofs.Common.{◌≡◌, ℕ, ◌≤◌, cond, List, [], ◌∷◌, take, length, map, Option, Some, None, option_map, codes, bytes_eq, refl, sym, ap, ◌∙◌, arith}
+use Rattle.std.proofs.Common.{◌≡◌, ℕ, ◌+◌, ◌<◌, ◌≤◌, cond, get_or, List, [], ◌∷◌, take, length, map, Option, Some, None, option_map, codes, bytes_eq, refl, sym, ap, ◌∙◌, arith}
 use Rattle.std.proofs.lemmas.Cmp.{nat_list_eq_equiv}
-use Rattle.std.proofs.lemmas.List.{length-map, take_all}
+use Rattle.std.proofs.lemmas.List.{length-map, map_more, take_all}
+use Rattle.std.proofs.lemmas.Map.{update_all_push}
 use Rattle.std.proofs.lemmas.Map.Made.{IsDistinct-from_count, update_all_none}
 use Rattle.std.specs.Map.{keys_of, lookup, update, update_all}
 use Rattle.handlebars_base.specs.Bytes.{Text}
@@ -48,6 +49,19 @@ update_all-built_ins row xs i f is past so_far name =
     ∙ update_all_none nat_list_eq_equiv bytes_eq (λ x y. refl) (map built_row built_ins) name
     (IsDistinct-from_count nat_list_eq_equiv (keys_of (map built_row built_ins)) refl)
     ∙ lookup-built_row name built_ins
+
+-- one more row is inserted
+pub update_all-next_built_in : {A : Type 0} (row : A → Text × BuiltInKind) (xs : List A) (i : ℕ) (d : A) (old new : Text → Option Callee)
+    → map row xs ≡ built_ins → i < length built_ins
+    → ((other : Text) → old other ≡ update_all bytes_eq (λ _. None) (map (λ x. ((row x).0, built (row x).1)) (take i xs)) other)
+    → ((other : Text) → new other ≡ update bytes_eq old (row (get_or xs i d)).0 (Some (built (row (get_or xs i d)).1)) other)
+    → (other : Text) → new other ≡ update_all bytes_eq (λ _. None) (map (λ x. ((row x).0, built (row x).1)) (take (i + 1) xs)) other
+update_all-next_built_in {A = A} row xs i d old new is more so_far puts other =
+    let to = λ (x : A). built_row (row x) in
+    puts other
+    ∙ update_all_push bytes_eq (λ _. None) old (map to (take i xs)) (to (get_or xs i d)) other (so_far other)
+    ∙ ap (λ rows. update_all bytes_eq (λ _. None) rows other)
+    (sym (map_more to xs i d (omega (arith, more, sym (length-map xs row), ap length is))))
 
 -- ---- decorators
 

@@ -1,6 +1,6 @@
 -- What is registered under names.
 use Rattle.std.specs.Prelude.{◌≡◌, Option, cond}
-use Rattle.std.specs.BTreeMap.{get_by_text}
+use Rattle.std.specs.HashMap.{get_by_text}
 use Rattle.std.specs.Str.{bytes_eq}
 use Rattle.handlebars_base.specs.Bytes.{Text}
 use Rattle.handlebars_helpers.specs.declared.by_name.ByName.{ByName}

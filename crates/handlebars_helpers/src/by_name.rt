@@ -1,18 +1,18 @@
 //! Entries by name.
 
 ghost use Rattle.std.specs.Prelude.{◌≡◌, ◌<◌, None, OnErr, OnOk, Some, is_some, length, option_map, string_bytes, true};
-ghost use Rattle.std.specs.BTreeMap.{get_by_text};
+ghost use Rattle.std.specs.HashMap.{get_by_text};
 ghost use Rattle.handlebars_base.specs.Bytes.{Text};
 ghost use Rattle.handlebars_helpers.specs.Marks.{is_marked, bucket_of};
 
 use std::alloc::{AllocError, Global};
-use std::collections::BTreeMap;
+use std::collections::HashMap;
 
-/// Entries by name, of helpers or of decorators. A rendering looks up a helper for each name that it reaches,
-/// and most names have none. The marks usually show that without a search.
+/// Entries by name, of helpers or of decorators. A rendering looks up a helper for each name that it reaches, which takes
+/// constant time on average. Most names have none. The marks usually show that without a hash of the name.
 #[derive(Drop)]
 pub struct ByName<E> {
-    by_name: BTreeMap<String, E>,
+    by_name: HashMap<String, E>,
     // The marked buckets: those of all names that have an entry, and of some that had one.
     marks: [bool; 256],
     ghost marked: { (name : Text) → is_some (get_by_text by_name name) ≡ true → is_marked marks name ≡ true },
@@ -26,12 +26,12 @@ impl<E: Drop> ByName<E> {
         ensures { (name : Text) → entry_at result name ≡ None }
     {
         ByName {
-            by_name: BTreeMap::new(alloc),
+            by_name: HashMap::new(alloc),
             marks: [false; 256],
         }
     }
 
-    /// Returns the entry under a name, if there is one. A name whose bucket isn't marked is not searched for.
+    /// Returns the entry under a name, if there is one. A name whose bucket isn't marked is not hashed.
     #[inline(always)]
     pub fn get(&self, name: &str) -> Option<&E>
         ensures { option_map (λ entry. entry.now) result ≡ entry_at self.now name.now }
@@ -82,8 +82,7 @@ fn mark(marks: &mut [bool; 256], name: &str)
 }
 
 // The bucket of a name. Names with different first letters mostly have different buckets, and so have names
-// with different second letters: `id`, which most templates use, is not searched for merely because there is an
-// `if`.
+// with different second letters: `id`, which most templates use, is not hashed merely because there is an `if`.
 fn mark_index_of(name: &str) -> usize
     ensures mark_index { result ≡ bucket_of name.now }
     ensures within { result < 256 }

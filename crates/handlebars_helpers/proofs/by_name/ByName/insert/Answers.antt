@@ -1,5 +1,5 @@
 use Rattle.std.proofs.Common.{string_bytes, Some, sym, ap, ◌∙◌}
-use Rattle.std.proofs.lemmas.Map.Text.{btree_map_updates_text}
+use Rattle.std.proofs.lemmas.Map.Text.{hash_map_updates_text}
 use Rattle.handlebars_helpers.specs.Marks.{is_marked}
 use Rattle.handlebars_helpers.proofs.Marked.{marked-inserted}
 use Rattle.handlebars_helpers.proofs.by_name.ByName.insert.Goals as goal
@@ -13,5 +13,5 @@ invariant_of-self g c = record {
 }
 
 pub returns-clause-ok : goal.returns-clause-ok
-returns-clause-ok g c = btree_map_updates_text (string_bytes c.args.name) c.args.self.now.by_name c.insert.new.self (Some c.args.entry)
+returns-clause-ok g c = hash_map_updates_text (string_bytes c.args.name) c.args.self.now.by_name c.insert.new.self (Some c.args.entry)
     c.in_ok-insert.ensures.updates

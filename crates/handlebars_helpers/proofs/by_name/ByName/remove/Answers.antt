@@ -1,5 +1,5 @@
 use Rattle.std.proofs.Common.{None}
-use Rattle.std.proofs.lemmas.Map.Text.{btree_map_updates_text}
+use Rattle.std.proofs.lemmas.Map.Text.{hash_map_updates_text}
 use Rattle.handlebars_helpers.proofs.Marked.{marked-removed}
 use Rattle.handlebars_helpers.proofs.by_name.ByName.remove.Goals as goal
 
@@ -10,4 +10,4 @@ invariant_of-self g c = record {
 }
 
 pub returns : goal.returns
-returns g c = btree_map_updates_text c.args.name.now c.args.self.now.by_name c.remove.new.self None c.remove.ensures.updates
+returns g c = hash_map_updates_text c.args.name.now c.args.self.now.by_name c.remove.new.self None c.remove.ensures.updates
