@@ -55,6 +55,7 @@ impl<'h> Iterations<'h> {
 
     /// Returns the next iteration, if one is left. Runs in O(1) for an array, in amortized O(1) for an object.
     /// Does not allocate.
+    #[inline(always)]
     pub fn next(&mut self) -> Option<Iteration<'h>>
         ensures { iterations_left self.old
             ≡ iterations_with (option_map iteration_view result) (iterations_left self.new) }

@@ -33,6 +33,7 @@ impl LineState {
     }
 
     /// Returns the line after a text that is written in it.
+    #[inline(always)]
     pub fn after(self, text: &str) -> LineState
         ensures { line_of result ≡ line_after_text text.now (line_of self) }
     {
@@ -44,6 +45,7 @@ impl LineState {
     }
 
     /// Returns the line after a value that is written in it. It doesn't depend on whether escaping is on.
+    #[inline(always)]
     pub fn after_value(self, value: &Json) -> LineState
         ensures { (escapes : Bool) → line_of result ≡ line_after_text (shown escapes (view value.now)) (line_of self) }
     {
@@ -57,6 +59,7 @@ impl LineState {
     }
 
     // Returns the line after a number. A number outside the range writes nothing.
+    #[inline(always)]
     fn after_number(self, number: &Number) -> LineState
         ensures { line_of result ≡ line_after_text (escaped (rendered_number (number_view number.now))) (line_of self) }
     {
@@ -69,6 +72,7 @@ impl LineState {
 }
 
 // Returns the line after a text, given whether the text ends a line.
+#[inline(always)]
 fn line_after(ends: bool) -> LineState
     ensures { line_of result ≡ line_after ends }
 {
@@ -79,6 +83,7 @@ fn line_after(ends: bool) -> LineState
     }
 }
 
+#[inline(always)]
 fn ends_line(text: &[u8]) -> bool
     ensures { result ≡ ends_line text.now }
 {

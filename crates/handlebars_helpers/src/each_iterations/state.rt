@@ -26,6 +26,7 @@ pub(super) enum MembersLeft<'h> {
 
 impl<'h> MembersLeft<'h> {
     // The next member, with its key, if it is one of an object.
+    #[inline(always)]
     pub(super) fn next(&mut self) -> Option<(Option<&'h str>, &'h Json)>
         ensures iterations { (n i : ℕ) → left_iterations n i self.old
             ≡ iterations_with (option_map (iteration_at n i) result) (left_iterations n (i + 1) self.new) }
