@@ -14,7 +14,8 @@ use Rattle.handlebars_template.specs.Tree.{Tree}
 use Rattle.handlebars_template.specs.TreeView.{tree_view}
 use Rattle.handlebars_template.specs.declared.template.tree.Template.{Template}
 use Rattle.handlebars_scope.specs.Scopes.{nothing_at, put_at}
-use Rattle.handlebars_layers.specs.PartialsByDepth.{ends_at, kept_to, partials_at, partials_in, partials_named}
+use Rattle.handlebars_scope.specs.ScopeView.{partials_named}
+use Rattle.handlebars_layers.specs.PartialsByDepth.{ends_at, kept_to, partials_at, partials_in}
 use Rattle.handlebars_layers.specs.PartialsView.{partials_of}
 use Rattle.handlebars_layers.specs.RisingDepths.{AllBefore, Rises, depths_of}
 use Rattle.handlebars_layers.specs.declared.partials.OfFrame.{OfFrame}

@@ -1,5 +1,6 @@
 -- Frames that bind no name.
 use Rattle.std.proofs.Common.{◌≡◌, ◌+◌, ◌++◌, ℕ, zero, suc, Bool, true, false, List, [], ◌∷◌, Option, Some, None, drop, add-one, refl, subst, sym, ap, ◌∙◌}
+use Rattle.std.proofs.lemmas.List.Elements.{Contains-append_left, Contains-append_right, Contains-push}
 use Rattle.std.specs.Prelude.{is_some, option_map}
 use Rattle.serde_json.specs.Data.{Data}
 use Rattle.handlebars_base.specs.Bytes.{Text}
@@ -8,7 +9,7 @@ use Rattle.handlebars_scope.specs.Resolve.{bound_resolution, or_else, resolution
 use Rattle.handlebars_scope.specs.Scopes.{Base, Bound, Frame, at_path, at_value, bound_base, nothing_at}
 use Rattle.handlebars_helpers.specs.Iterations.{iteration_key}
 use Rattle.handlebars_semantics.specs.Inclusion.{with_bound}
-use Rattle.handlebars_layers.specs.Binding.{MayBind, binds_names, is_some_value, kind_binds}
+use Rattle.handlebars_layers.specs.Binding.{BindsSome, IsUnbound, MayBind, binds_names, is_some_value, kind_binds}
 use Rattle.handlebars_layers.specs.Chain.{BlockNames, Chain, LayerKind, NodesAreThere, block_bound, frame_layer, frames, is_outside, iteration, iteration_layer, kind_bound, kind_frame, kind_names, names_from, no_layer, node_layer, one, outer_chain, outside, partial_layer, skip, two, unnamed, value_bound, value_layer, with_layer}
 use Rattle.handlebars_layers.specs.ScopeFrames.{layer_depth}
 
@@ -44,6 +45,17 @@ resolution-unbound fs (named n ∷ rest) unbound = name-unbound fs n rest unboun
 resolution-unbound fs (root ∷ rest) unbound = refl
 resolution-unbound fs (local ∷ rest) unbound = refl
 resolution-unbound fs (up ∷ rest) unbound = refl
+
+-- a name that the first frame binds, or one of the others
+pub first-binds : (f : Frame) (fs : List Frame) → (name : Text) × (is_some (f.bound name) ≡ true) → BindsSome (f ∷ fs)
+first-binds f fs bound = (f, Contains-append_left (f ∷ []) fs f (Contains-push [] f), bound.0, bound.1)
+
+pub rest-binds : (f : Frame) (fs : List Frame) → BindsSome fs → BindsSome (f ∷ fs)
+rest-binds f fs some = (some.0, Contains-append_right (f ∷ []) fs some.0 some.1, some.2, some.3)
+
+-- a frame whose bindings are none binds no name
+pub nothing-bound : (f : Frame) → f.bound ≡ nothing_at → IsUnbound f
+nothing-bound f is name = ap (λ (bound : Text → Option Bound). is_some (bound name)) is
 
 -- ---- layers
 

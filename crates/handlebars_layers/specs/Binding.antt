@@ -1,5 +1,6 @@
 -- Whether frames bind names.
 use Rattle.std.specs.Prelude.{◌≡◌, Bool, true, false, List, [], ◌∷◌, is_some}
+use Rattle.std.specs.List.{Contains}
 use Rattle.std.specs.Coded.{Coded-set, coded_bool, ×_prop, Unit-prop, Π_prop}
 use Rattle.serde_json.specs.Data.{Data}
 use Rattle.handlebars_base.specs.Bytes.{Text}
@@ -15,6 +16,10 @@ abbrev pub MayBind : Bool → List Frame → Type 0
 MayBind true fs = Unit {0}
 MayBind false [] = Unit {0}
 MayBind false (f ∷ fs) = IsUnbound f × MayBind false fs
+
+-- One of the frames binds a name.
+abbrev pub BindsSome : List Frame → Type 0
+BindsSome fs = (f : Frame) × Contains fs f × (name : Text) × (is_some (f.bound name) ≡ true)
 
 IsUnbound-prop : (f : Frame) → IsProp (IsUnbound f)
 IsUnbound-prop f = Π_prop λ name. Coded-set coded_bool (is_some (f.bound name)) false

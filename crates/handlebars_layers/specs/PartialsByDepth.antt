@@ -1,18 +1,10 @@
 -- Partials by the depth of their frame.
-use Rattle.std.specs.Prelude.{ℕ, Bool, false, List, [], ◌∷◌, Option, String, option_map, if◌then◌else◌, ◌==◌, nat_le}
-use Rattle.std.specs.BTreeMap.{BTreeMap, get_by_text}
-use Rattle.std.specs.declared.alloc.Global.{Global}
-use Rattle.std.specs.declared.rc.Rc.{Rc}
+use Rattle.std.specs.Prelude.{ℕ, Bool, false, List, [], ◌∷◌, Option, if◌then◌else◌, ◌==◌, nat_le}
 use Rattle.handlebars_base.specs.Bytes.{Text}
 use Rattle.handlebars_template.specs.Tree.{Tree}
-use Rattle.handlebars_template.specs.TreeView.{tree_view}
-use Rattle.handlebars_template.specs.declared.template.tree.Template.{Template}
+use Rattle.handlebars_scope.specs.ScopeView.{partials_named}
 use Rattle.handlebars_scope.specs.Scopes.{nothing_at}
 use Rattle.handlebars_layers.specs.declared.partials.OfFrame.{OfFrame}
-
--- the partials of a map by name
-abbrev pub partials_named : BTreeMap (String Global) (Rc Template Global) → Text → Option Tree
-partials_named by_name name = option_map (λ t. tree_view t.value) (get_by_text by_name name)
 
 -- the partials of one layer by name
 abbrev pub partials_in : OfFrame → Text → Option Tree

@@ -2,7 +2,8 @@
 use Rattle.std.specs.Prelude.{ℕ, zero, suc, Option}
 use Rattle.handlebars_base.specs.Bytes.{Text}
 use Rattle.handlebars_template.specs.Tree.{Tree}
-use Rattle.handlebars_layers.specs.PartialsByDepth.{partials_at, partials_named}
+use Rattle.handlebars_scope.specs.ScopeView.{partials_named}
+use Rattle.handlebars_layers.specs.PartialsByDepth.{partials_at}
 use Rattle.handlebars_layers.specs.declared.partials.Partials.{Partials}
 
 -- the partials of the frame at a depth, by name: of the nearest frame from outside, or of a layer

@@ -1,10 +1,10 @@
 //! The layers of a run, innermost first, and how deep they are.
 
-ghost use Rattle.std.specs.Prelude.{◌≡◌, length, true};
+ghost use Rattle.std.specs.Prelude.{◌≡◌, IsTrue, length, true};
 ghost use Rattle.std.specs.Coded.{Coded-set, coded_bool, coded_ℕ};
 ghost use Rattle.handlebars_scope.specs.Contexts.{data_of};
 ghost use Rattle.handlebars_scope.specs.ScopeView.{frames_of};
-ghost use Rattle.handlebars_layers.specs.Binding.{MayBind, MayBind-prop};
+ghost use Rattle.handlebars_layers.specs.Binding.{BindsSome, MayBind, MayBind-prop};
 ghost use Rattle.handlebars_layers.specs.Chain.{NodesAreThere, NodesAreThere-prop, frames, frames_outside, is_no_layer};
 ghost use Rattle.handlebars_layers.specs.LayerView.{chain_of};
 ghost use Rattle.handlebars_layers.specs.ScopeFrames.{layer_depth};
@@ -123,10 +123,15 @@ impl<'r, 'a> Innermost<'r, 'a> {
     }
 }
 
-/// Returns whether any of these frames may bind a name. Nothing tells whether a frame that was made does, so it is assumed of
-/// each.
+/// Returns whether any of these frames binds a name.
 pub fn binds_any(frames: &VecDeque<BlockContext>) -> bool
-    ensures { MayBind result (frames_of frames.now.items) }
+    ensures none { MayBind result (frames_of frames.now.items) }
+    ensures some { IsTrue result → BindsSome (frames_of frames.now.items) }
 {
-    frames.len() > 0
+    for frame in frames.iter() {
+        if !frame.has_no_bound_names() {
+            return true;
+        }
+    }
+    false
 }

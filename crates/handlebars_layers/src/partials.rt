@@ -1,14 +1,14 @@
 //! Partials that decorators set in scope frames, by the depth of each frame, which is the number of layers around it.
 
 ghost use Rattle.std.specs.Prelude.{◌≡◌, ◌<◌, ◌≤◌, ℕ, OnErr, OnOk, option_map, string_bytes, take};
-ghost use Rattle.handlebars_scope.specs.ScopeView.{frames_of};
+ghost use Rattle.handlebars_scope.specs.ScopeView.{frames_of, partials_named};
 ghost use Rattle.handlebars_semantics.specs.State.{partial_in};
 ghost use Rattle.handlebars_layers.specs.Chain.{frames_outside};
 ghost use Rattle.handlebars_layers.specs.LayerView.{chain_of};
 ghost use Rattle.handlebars_layers.specs.ScopeFrames.{further_frames};
 ghost use Rattle.handlebars_template.specs.TreeView.{tree_view};
 ghost use Rattle.handlebars_scope.specs.Scopes.{nothing_at, put_at};
-ghost use Rattle.handlebars_layers.specs.PartialsByDepth.{ends_at, kept_to, partials_at, partials_in, partials_named};
+ghost use Rattle.handlebars_layers.specs.PartialsByDepth.{ends_at, kept_to, partials_at, partials_in};
 ghost use Rattle.handlebars_layers.specs.NearestPartial.{nearest_partial};
 ghost use Rattle.handlebars_layers.specs.RisingDepths.{Rises, Rises-prop, depths_of};
 

@@ -5,7 +5,7 @@ use Rattle.handlebars_base.proofs.OptionBinds.{option_map-cond}
 use Rattle.handlebars_base.specs.Bytes.{Text}
 use Rattle.handlebars_template.specs.TreeView.{tree_view}
 use Rattle.handlebars_scope.specs.Scopes.{put_at}
-use Rattle.handlebars_layers.specs.PartialsByDepth.{partials_named}
+use Rattle.handlebars_scope.specs.ScopeView.{partials_named}
 use Rattle.handlebars_layers.proofs.partials.set_named.Goals as goal
 
 pub returns-clause-ok : goal.returns-clause-ok

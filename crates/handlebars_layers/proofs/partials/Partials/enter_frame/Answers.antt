@@ -2,7 +2,7 @@ use Rattle.std.proofs.Common.{◌≡◌, ◌∙◌, ℕ, arith, refl, subst, suc
 use Rattle.std.proofs.lemmas.List.{nil_from_length}
 use Rattle.std.proofs.lemmas.Result.{on_err_weaker, on_ok_weaker}
 use Rattle.handlebars_layers.specs.LayerView.{chain_of}
-use Rattle.handlebars_layers.specs.PartialsByDepth.{partials_named}
+use Rattle.handlebars_scope.specs.ScopeView.{partials_named}
 use Rattle.handlebars_layers.specs.PartialsView.{partials_of}
 use Rattle.handlebars_layers.specs.RisingDepths.{AllBefore}
 use Rattle.handlebars_layers.proofs.InnermostFrame.{entered-frame, entered-with-none, frames-around}

@@ -2,7 +2,8 @@ use Rattle.std.proofs.Common.{◌<◌, ◌∙◌, ap, arith, suc, sym, zero}
 use Rattle.std.proofs.lemmas.Result.{on_err_weaker, on_ok_weaker}
 use Rattle.handlebars_template.specs.TreeView.{tree_view}
 use Rattle.handlebars_scope.specs.Scopes.{put_at}
-use Rattle.handlebars_layers.specs.PartialsByDepth.{partials_at, partials_named}
+use Rattle.handlebars_scope.specs.ScopeView.{partials_named}
+use Rattle.handlebars_layers.specs.PartialsByDepth.{partials_at}
 use Rattle.handlebars_layers.proofs.Settings.{deepest-kept, deeper-dropped, layer-of, on-err, outer-kept}
 use Rattle.handlebars_layers.proofs.partials.Partials.set.Goals as goal
 
