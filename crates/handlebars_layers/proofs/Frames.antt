@@ -1,5 +1,5 @@
 -- Frames by their number, and how paths are resolved from them.
-use Rattle.std.proofs.Common.{◌≡◌, ◌⊎◌, inl, inr, ◌<◌, ◌≤◌, ◌+◌, ◌-◌, nat_lt, ℕ, zero, suc, arith, Bool, true, false, List, [], ◌∷◌, ◌++◌, Some, None, length, drop, refl, sym, ap, ◌∙◌}
+use Rattle.std.proofs.Common.{◌≡◌, ◌⊎◌, inl, inr, ◌<◌, ◌≤◌, ◌+◌, ◌-◌, nat_lt, ℕ, zero, suc, arith, Bool, true, false, List, [], ◌∷◌, ◌++◌, Option, Some, None, length, drop, refl, sym, ap, ◌∙◌}
 use Rattle.std.proofs.Math.ListN.{drop_of_length-le}
 use Rattle.std.proofs.lemmas.Bool.Decides.{nat_tests}
 use Rattle.std.specs.Prelude.{slice_get}
@@ -11,7 +11,7 @@ use Rattle.handlebars_scope.specs.Resolve.{along, frame_up, in_block_value, is_f
 use Rattle.handlebars_scope.specs.Scopes.{Bound, Frame}
 use Rattle.handlebars_semantics.specs.State.{nearest_variables}
 use Rattle.handlebars_layers.specs.Chain.{names_at}
-use Rattle.handlebars_layers.specs.Frames.{base_value_at, bound_at, frames_up, is_some_frame, nearest_resolution, frames_around, path_resolution}
+use Rattle.handlebars_layers.specs.Frames.{base_value_at, bound_at, frames_up, frames_up_or_nearest, is_some_frame, nearest_resolution, frames_around, path_resolution}
 
 lt_or_le : (a b : ℕ) → (a < b) ⊎ (b ≤ a)
 lt_or_le zero zero = inr (omega arith)
@@ -180,6 +180,25 @@ unbound-nearest recursive fs n segments not_root is none = rw (not_root, ← is)
 pub unbound-root : (recursive : Bool) (fs gs : List Frame) (segments : List Segment) → is_from_root segments ≡ true → gs ≡ []
     → along (names_at gs ++ names_of segments) ≡ unbound_resolution recursive fs segments
 unbound-root recursive fs gs segments root none = rw (root, none) refl
+
+pub unbound-root-nearest : (recursive : Bool) (fs gs : List Frame) (segments : List Segment) → is_from_root segments ≡ true → gs ≡ []
+    → nearest_resolution recursive gs segments ≡ unbound_resolution recursive fs segments
+unbound-root-nearest recursive fs gs segments root none = rw (root, none) refl
+
+pub unbound-up-or-nearest : (recursive : Bool) (fs gs : List Frame) (n : ℕ) (segments : List Segment) → is_from_root segments ≡ false
+    → n ≡ ups_in segments → gs ≡ frames_up_or_nearest fs n → nearest_resolution recursive gs segments ≡ unbound_resolution recursive fs segments
+unbound-up-or-nearest recursive fs gs n segments not_root is same =
+    let go : (o : Option (List Frame)) → o ≡ frames_up fs n
+    → nearest_resolution recursive (with_or o (λ hs. hs) fs) segments ≡ unbound_resolution recursive fs segments =
+    elim [
+      | None ↦ λ none. unbound-nearest recursive fs n segments not_root is none
+      | Some hs ↦ λ found. unbound-up recursive fs hs n segments not_root is found
+    ] in
+    ap (λ hs. nearest_resolution recursive hs segments) same ∙ go (frames_up fs n) refl
+
+pub up-none-out : (fs : List Frame) (n : ℕ) → n ≡ 0 → fs ≡ frames_up_or_nearest fs n
+up-none-out [] n is = refl
+up-none-out (f ∷ fs) n is = rw is refl
 
 -- the nearest frame has a value, or it has none
 pub resolution-value : (recursive : Bool) (fs : List Frame) (segments : List Segment) (d : Data) → Some d ≡ base_value_at fs

@@ -4,6 +4,7 @@ pub mod Layers
 pub mod DescentNames
 pub mod Unbound
 pub mod Under
+pub mod Destinations
 pub mod InData
 pub mod Hash
 pub mod Layering

@@ -4,8 +4,9 @@ use Rattle.std.proofs.lemmas.List.Elements.{Contains-append_left, Contains-appen
 use Rattle.std.specs.Prelude.{is_some, option_map}
 use Rattle.serde_json.specs.Data.{Data}
 use Rattle.handlebars_base.specs.Bytes.{Text}
+use Rattle.handlebars_base.specs.Optional.{with_or}
 use Rattle.handlebars_base.specs.Path.{Segment, local, named, root, up}
-use Rattle.handlebars_scope.specs.Resolve.{bound_resolution, or_else, resolution_of_bound, resolution_of_name}
+use Rattle.handlebars_scope.specs.Resolve.{after_ups, bound_resolution, found_by, navigate, or_else, resolution_of_bound, resolution_of_name, unbound_resolution}
 use Rattle.handlebars_scope.specs.Scopes.{Base, Bound, Frame, at_path, at_value, bound_base, nothing_at}
 use Rattle.handlebars_helpers.specs.Iterations.{iteration_key}
 use Rattle.handlebars_semantics.specs.Inclusion.{with_bound}
@@ -56,6 +57,12 @@ rest-binds f fs some = (some.0, Contains-append_right (f ∷ []) fs some.0 some.
 -- a frame whose bindings are none binds no name
 pub nothing-bound : (f : Frame) → f.bound ≡ nothing_at → IsUnbound f
 nothing-bound f is name = ap (λ (bound : Text → Option Bound). is_some (bound name)) is
+
+-- so without recursive lookup the resolution is that of an unbound name
+pub navigate-unbound : (recursive : Bool) (fs : List Frame) (segments : List Segment) (d : Data) → recursive ≡ false → MayBind false fs
+    → found_by (unbound_resolution false fs segments) d ≡ navigate recursive fs segments d
+navigate-unbound recursive fs segments d is unbound =
+    sym (λ i. found_by (with_or (resolution-unbound fs (after_ups segments) unbound i) (λ r. r) (unbound_resolution (is i) fs segments)) d)
 
 -- ---- layers
 

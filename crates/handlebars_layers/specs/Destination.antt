@@ -1,19 +1,19 @@
 -- What the code finds, as a value with its origin.
-use Rattle.std.specs.Prelude.{◌≡◌, ◌++◌, List, None, Option, Some, option_map, Result, Ok, Err, string_bytes}
+use Rattle.std.specs.Prelude.{◌≡◌, ◌++◌, List, [], None, Option, Some, option_map, Result, Ok, Err, string_bytes}
 use denote.Ref.{Bor}
 use Rattle.serde_json.specs.Data.{Data}
 use Rattle.serde_json.specs.View.{view}
-use Rattle.handlebars_base.specs.Answers.{Answer, gives, fails_for}
+use Rattle.handlebars_base.specs.Answers.{Answer, gives, fails, fails_for}
 use Rattle.handlebars_base.specs.Bytes.{Text}
 use Rattle.handlebars_base.specs.Reasons.{invalid_json_index}
 use Rattle.handlebars_base.specs.Scoped.{Found, walked, value, missing}
 use Rattle.handlebars_base.specs.PathView.{segments_of}
 use Rattle.serde_json.specs.declared.value.Value as json
-use Rattle.handlebars_scope.specs.Resolve.{Resolution, along, in_block_value, names_of, under_prefix, value_at}
+use Rattle.handlebars_scope.specs.Resolve.{Resolution, along, in_block_value, names_of, under_prefix}
 use Rattle.handlebars_scope.specs.ResolutionView.{names_in}
 use Rattle.handlebars_scope.specs.Scopes as scopes
 use Rattle.handlebars_scope.specs.Scopes.{Frame}
-use Rattle.handlebars_layers.specs.Chain.{IsValue, frames_from, names_at}
+use Rattle.handlebars_layers.specs.Chain.{frames_from, names_at}
 use Rattle.handlebars_layers.specs.FrameValues.{value_data}
 use Rattle.handlebars_layers.specs.LayerView.{descent_names, chain_of}
 use Rattle.handlebars_layers.specs.declared.scopes.Scopes as code
@@ -43,18 +43,23 @@ abbrev pub bound_view : Bound → scopes.Bound
 bound_view (bound.Path names) = scopes.bound_path (names_in names.now)
 bound_view (bound.Value v) = scopes.bound_value (value_data v)
 
-abbrev pub destination_of : Destination → Answer Found
-destination_of (Node node r) = gives (walked (view node.now) (route_names r))
-destination_of (Value v) = gives (value (value_data v))
-destination_of Nothing = gives missing
-destination_of (NoIndex name) = fails_for (invalid_json_index name.now)
+-- the names that lead to what was found, if it is a value of the data
+abbrev pub names_found : Answer Found → List Text
+names_found (gives (walked d names)) = names
+names_found (gives (value d)) = []
+names_found (gives missing) = []
+names_found (fails r) = []
 
--- A value of the data is what the names of its route lead to, and the route is one in these data.
-abbrev pub IsRouted : Destination → Data → Type 0
-IsRouted (Node node r) d = IsValue (value_at d (route_names r)) (view node.now) × (given_in r.start ≡ d)
-IsRouted (Value v) d = Unit {0}
-IsRouted Nothing d = Unit {0}
-IsRouted (NoIndex name) d = Unit {0}
+-- what the code found, with the names that lead to it if it is a value of the data
+abbrev pub destination_of : List Text → Destination → Answer Found
+destination_of names (Node node) = gives (walked (view node.now) names)
+destination_of names (Value v) = gives (value (value_data v))
+destination_of names Nothing = gives missing
+destination_of names (NoIndex name) = fails_for (invalid_json_index name.now)
+
+-- The code found what the definition finds. The definition alone has the names that lead to a value of the data.
+abbrev pub IsDestination : Answer Found → Destination → Type 0
+IsDestination sought found = destination_of (names_found sought) found ≡ sought
 
 -- a value of other data alone, without a path
 abbrev pub found_in_data : FoundInData → Answer (Option Data)

@@ -2,6 +2,7 @@
 use Rattle.std.specs.Prelude.{ℕ, zero, suc, Bool, true, false, List, [], ◌∷◌, Option, Some, None}
 use Rattle.handlebars_base.specs.Bytes.{Text}
 use Rattle.serde_json.specs.Data.{Data, null, boolean, number, string, array, object}
+use Rattle.handlebars_base.specs.Optional.{with_or}
 use Rattle.handlebars_base.specs.Path.{Segment}
 use Rattle.handlebars_scope.specs.Resolve.{Resolution, along, names_of, resolution_from, resolution_in, resolution_of_bound, single_plain_name}
 use Rattle.handlebars_scope.specs.Scopes.{Bound, Frame}
@@ -22,6 +23,10 @@ abbrev pub frames_up : List Frame → ℕ → Option (List Frame)
 frames_up [] n = None
 frames_up (f ∷ fs) zero = Some (f ∷ fs)
 frames_up (f ∷ fs) (suc n) = frames_up fs n
+
+-- the frames from the one this many frames out, or all of them if there is no such frame
+abbrev pub frames_up_or_nearest : List Frame → ℕ → List Frame
+frames_up_or_nearest fs n = with_or (frames_up fs n) (λ gs. gs) fs
 
 -- what the nearest frame binds a name to
 abbrev pub bound_at : List Frame → Text → Option Bound

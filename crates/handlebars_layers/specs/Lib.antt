@@ -5,6 +5,8 @@ pub mod Binding
 pub mod FrameValues
 pub mod LayerView
 pub mod Destination
+pub mod Sought
+pub mod Reached
 pub mod Under
 pub mod Hits
 pub mod Layering

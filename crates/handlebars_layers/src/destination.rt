@@ -1,14 +1,15 @@
 //! What a path leads to. Neither its full path nor the JSON of a variable is made.
 
 use crate::layer::Descent;
+pub use crate::reached::Reached;
 use crate::scopes::Scopes;
 use handlebars_base::json::value::Json;
 
 /// What a path leads to.
 #[derive(Clone, Copy)]
 pub enum Destination<'r, 'a> {
-    /// A value of the data, and the route to it.
-    Node(&'a Json, Route<'r, 'a>),
+    /// A value of the data.
+    Node(&'a Json),
     /// A value of a frame, which has no path.
     Value(FrameValue<'r>),
     /// No value.
@@ -24,12 +25,14 @@ pub struct Route<'r, 'a> {
     pub descent: Descent<'r>,
 }
 
-/// A value that a frame has: JSON, or a variable of an iteration, of which there is no JSON.
+/// A value that a frame has: JSON, or a variable of an iteration, of which there is no JSON. No variant has a field of less than a
+/// word, so that a value is copied word by word.
 #[derive(Clone, Copy)]
 pub enum FrameValue<'r> {
     Json(&'r Json),
     Index(usize),
-    Truth(bool),
+    True,
+    False,
     Key(&'r str),
 }
 

@@ -1,6 +1,7 @@
 //! What the nearest frame has: its base, what it binds names to, and its variables.
 
 ghost use Rattle.std.specs.Prelude.{◌≡◌, Bool, None, option_map};
+ghost use Rattle.serde_json.specs.Data.{boolean};
 ghost use Rattle.serde_json.specs.View.{view};
 ghost use Rattle.handlebars_scope.specs.Resolve.{value_at};
 ghost use Rattle.handlebars_scope.specs.ResolutionView.{reached_of};
@@ -36,6 +37,7 @@ impl<'r, 'a> Scopes<'r, 'a> {
     ghost use Rattle.handlebars_layers.specs.FrameValues.{value_data};
 
     /// Returns the frames without any frame, in which paths lead from the data.
+    #[inline(always)]
     pub fn root(self) -> Scopes<'r, 'a>
         ensures frames { frames_in result ≡ [] }
         ensures given { result.given ≡ self.entry.given }
@@ -50,6 +52,7 @@ impl<'r, 'a> Scopes<'r, 'a> {
     }
 
     /// Returns the value that paths lead from, if the nearest frame has one.
+    #[inline(always)]
     pub fn base_value(self) -> Option<&'r Json>
         ensures { option_map (λ v. view v.now) result ≡ base_value_at (frames_in self.entry) }
     {
@@ -66,6 +69,7 @@ impl<'r, 'a> Scopes<'r, 'a> {
     }
 
     /// Returns the value of the data that the base path of the nearest frame leads to.
+    #[inline(always)]
     pub fn base(self, looked_up: &LookedUp) -> Reached<'a, 'r>
         ensures { reached_of result ≡ value_at (given_in self.entry) (names_at (frames_in self.entry)) }
     {
@@ -302,8 +306,18 @@ fn usual_variable<'r>(index: usize, last: bool, name: &str) -> Option<FrameValue
 {
     match name {
         "index" => Some(FrameValue::Index(index)),
-        "last" => Some(FrameValue::Truth(last)),
-        "first" => Some(FrameValue::Truth(index == 0)),
+        "last" => Some(truth_value(last)),
+        "first" => Some(truth_value(index == 0)),
         _ => None,
+    }
+}
+
+fn truth_value<'r>(truth: bool) -> FrameValue<'r>
+    ensures { value_data result ≡ boolean truth }
+{
+    if truth {
+        FrameValue::True
+    } else {
+        FrameValue::False
     }
 }

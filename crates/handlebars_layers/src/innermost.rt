@@ -72,6 +72,7 @@ impl<'r, 'a> Innermost<'r, 'a> {
     }
 
     /// Returns the frames of the run.
+    #[inline(always)]
     pub fn scopes(self) -> Scopes<'r, 'a>
         ensures frames { frames_in result ≡ frames (chain_of self.entry.nearest.now) }
         ensures given { given_in result ≡ data_of self.entry.given.now }
@@ -86,6 +87,7 @@ impl<'r, 'a> Innermost<'r, 'a> {
     }
 
     /// Returns the layers of the run once it has entered this one, or `None` if there are 2^64 - 1 layers already.
+    #[inline(always)]
     pub fn enter(self, layer: &'r Layer<'r, 'a>) -> Option<Innermost<'r, 'a>>
         requires outer { outer_chain (chain_of layer.now) ≡ Some (chain_of self.nearest.now) }
         requires lead { NodesAreThere (data_of self.given.now) (chain_of layer.now) }
@@ -108,6 +110,7 @@ impl<'r, 'a> Innermost<'r, 'a> {
     }
 
     // Returns whether any frame may bind a name once this layer is entered. It is assumed of a frame that was made.
+    #[inline(always)]
     fn binds_in(self, layer: &Layer<'r, 'a>) -> bool
         requires { outer_chain (chain_of layer.now) ≡ Some (chain_of self.nearest.now) }
         ensures { MayBind result (frames (chain_of layer.now)) }

@@ -102,6 +102,7 @@ impl<'r, 'a> Layer<'r, 'a> {
     }
 
     /// Creates a layer at a value of the data, or at a member of it for an iteration. The route is that of the value.
+    #[inline(always)]
     pub fn at_node(
         node: &'a Json,
         route: &'r Route<'r, 'a>,
@@ -125,6 +126,7 @@ impl<'r, 'a> Layer<'r, 'a> {
     }
 
     /// Creates a layer at a value that has no path.
+    #[inline(always)]
     pub fn at_value(value: &'r Json, kind: LayerKind<'r>, outer: &'r Layer<'r, 'a>) -> Layer<'r, 'a>
         ensures chain { chain_of result ≡ value_layer (view value.now) (kind_view kind.entry) (chain_of outer.now) }
         ensures there { (d : Data) → NodesAreThere d (chain_of outer.now) → NodesAreThere d (chain_of result) }

@@ -16,5 +16,7 @@ pub mod made;
 mod outside;
 pub mod partials;
 mod prefixes;
+mod reached;
 mod resolution;
+mod route;
 pub mod scopes;

@@ -30,7 +30,8 @@ pub fn json_of(value: FrameValue<'_>, alloc: Global) -> Result<Json, AllocError>
     match value {
         FrameValue::Json(json) => json.clone(),
         FrameValue::Index(index) => Ok(Json::Number(Number::from(index))),
-        FrameValue::Truth(truth) => Ok(Json::Bool(truth)),
+        FrameValue::True => Ok(Json::Bool(true)),
+        FrameValue::False => Ok(Json::Bool(false)),
         FrameValue::Key(key) => Ok(Json::String(String::from_str(alloc, key)?)),
     }
 }

@@ -8,7 +8,7 @@ ghost use Rattle.handlebars_scope.specs.Resolve.{found_by, or_else, under_prefix
 ghost use Rattle.handlebars_scope.specs.ResolutionView.{names_in};
 ghost use Rattle.handlebars_scope.specs.ScopeView.{frames_of};
 ghost use Rattle.handlebars_layers.specs.Chain.{names_at};
-ghost use Rattle.handlebars_layers.specs.Destination.{IsRouted, destination_of, frames_in, given_in, route_names};
+ghost use Rattle.handlebars_layers.specs.Destination.{IsDestination, frames_in, given_in, route_names};
 ghost use Rattle.handlebars_layers.specs.Hits.{below, placed};
 ghost use Rattle.handlebars_layers.specs.LayerView.{after_names, kind_view};
 ghost use Rattle.handlebars_layers.specs.Under.{beyond, from_end, hit_at, member_value, under};
@@ -30,19 +30,17 @@ pub fn under_prefix<'r, 'a>(
     name: &'r String,
     looked_up: &LookedUp,
 ) -> Destination<'r, 'a>
-    ensures there { IsRouted result (given_in scopes.entry) }
-    ensures found { destination_of result
-        ≡ found_by (under_prefix (names_at (frames_in scopes.entry)) (string_bytes name.now)) (given_in scopes.entry) }
+    ensures { IsDestination
+        (found_by (under_prefix (names_at (frames_in scopes.entry)) (string_bytes name.now)) (given_in scopes.entry)) result }
 {
     match longest(scopes, name, looked_up) {
-        Some((node, route)) => Destination::Node(node, route),
+        Some((node, _)) => Destination::Node(node),
         None => Destination::Nothing,
     }
 }
 
-// Returns the value under the longest prefix, and the route to it. `further` has the names after the base path of a layer, under
-// whose prefixes the name is looked up before those of the base path.
-fn longest<'r, 'a>(
+/// Returns the value under the longest prefix, and the route to it.
+pub fn longest<'r, 'a>(
     scopes: Scopes<'r, 'a>,
     name: &'r String,
     looked_up: &LookedUp,
@@ -53,6 +51,7 @@ fn longest<'r, 'a>(
 {
     let mut nearest = scopes.nearest;
     let mut skipped = scopes.skipped;
+    // The names after the base path of a layer. Under their prefixes the name is looked up before those of the base path.
     let mut further = None;
     'layers: loop {
         let here = Scopes {

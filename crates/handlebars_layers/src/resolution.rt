@@ -32,6 +32,7 @@ pub enum Resolution<'r, 'a> {
 }
 
 /// Returns the resolution of segments in these frames.
+#[inline(always)]
 pub fn resolution_of<'r, 'a>(
     scopes: Scopes<'r, 'a>,
     recursive: bool,
@@ -45,6 +46,14 @@ pub fn resolution_of<'r, 'a>(
         Some(resolution) => resolution,
         None => unbound_resolution(scopes, recursive, ups, segments),
     }
+}
+
+/// Returns the number of `..` at the start.
+#[inline(always)]
+pub fn ups_in(segments: &[PathSeg]) -> usize
+    ensures { result ≡ ups_in (segments_of segments.now) }
+{
+    past_ups(segments).0
 }
 
 // Returns the number of `..` at the start, and the segments after them.
@@ -83,6 +92,7 @@ fn bound_resolution<'r, 'a>(
 }
 
 // Returns the resolution of a bound name: by the nearest frame that binds it.
+#[inline(never)]
 fn resolution_of_name<'r, 'a>(
     scopes: Scopes<'r, 'a>,
     name: &str,
@@ -143,14 +153,12 @@ fn unbound_resolution<'r, 'a>(
             rest: segments,
         };
     }
-    match scopes.up(ups) {
-        Some(frames) => resolution_in(frames, recursive, segments),
-        None => resolution_in(scopes, recursive, segments),
-    }
+    resolution_in(scopes.up_or_nearest(ups), recursive, segments)
 }
 
+/// Returns whether `@root` is at the start.
 #[inline(always)]
-fn is_from_root(segments: &[PathSeg]) -> bool
+pub fn is_from_root(segments: &[PathSeg]) -> bool
     ensures { result ≡ is_from_root (segments_of segments.now) }
 {
     match segments {

@@ -28,10 +28,11 @@ pub struct Scopes<'r, 'a> {
 
 impl<'r, 'a> Scopes<'r, 'a> {
     ghost use Rattle.std.specs.Prelude.{◌≡◌, IfSome, option_map};
-    ghost use Rattle.handlebars_layers.specs.Frames.{frames_up, is_some_frame, frames_around};
+    ghost use Rattle.handlebars_layers.specs.Frames.{frames_around, frames_up, frames_up_or_nearest, is_some_frame};
     ghost use Rattle.handlebars_layers.specs.Destination.{given_in, frames_in};
 
     /// Returns whether there is a frame.
+    #[inline(always)]
     pub fn has_frame(self) -> bool
         ensures { result ≡ is_some_frame (frames_in self.entry) }
     {
@@ -45,6 +46,7 @@ impl<'r, 'a> Scopes<'r, 'a> {
     }
 
     /// Returns the frames around the nearest one, or `None` if there is no frame.
+    #[inline(always)]
     pub fn outer(self) -> Option<Scopes<'r, 'a>>
         ensures frames { option_map frames_in result ≡ frames_around (frames_in self.entry) }
         ensures given { IfSome result (λ s. s.given ≡ self.entry.given) }
@@ -88,7 +90,23 @@ impl<'r, 'a> Scopes<'r, 'a> {
         }
     }
 
+    /// Returns the frames from the one that is this many frames out, or all of them if there is no such frame.
+    #[inline(always)]
+    pub fn up_or_nearest(self, count: usize) -> Scopes<'r, 'a>
+        ensures frames { frames_in result ≡ frames_up_or_nearest (frames_in self.entry) count }
+        ensures given { result.given ≡ self.entry.given }
+    {
+        if count == 0 {
+            return self;
+        }
+        match self.up(count) {
+            Some(frames) => frames,
+            None => self,
+        }
+    }
+
     /// Returns the frames from the one that is this many frames out, or `None` if there is no such frame.
+    #[inline(always)]
     pub fn up(self, count: usize) -> Option<Scopes<'r, 'a>>
         ensures frames { option_map frames_in result ≡ frames_up (frames_in self.entry) count }
         ensures given { IfSome result (λ s. s.given ≡ self.entry.given) }

@@ -21,7 +21,7 @@ indexes_of = fold-IterationsAround _ indexes_layer
 abbrev pub whereabouts_in : ElementLocation → Whereabouts
 whereabouts_in x = record {
   around = record {
-    template = template_seen x.surroundings.now.template;
+    template = template_seen x.surroundings.now.placement.now.template;
     iterations = indexes_of x.surroundings.now.iterations.now;
   };
   position = slice_get (map position_of x.surroundings.now.mapping.now.items) x.index;
@@ -29,7 +29,7 @@ whereabouts_in x = record {
 
 -- the indentation in force, if there is one
 abbrev pub indent_in : ElementLocation → Option Text
-indent_in x = option_map (λ t. t.now) x.surroundings.now.indent
+indent_in x = option_map (λ t. t.now) x.surroundings.now.placement.now.indent
 
 -- of this kind and path, from the location of the element
 abbrev pub provenance_in : ElementLocation → Kind → Option (List Text) → Provenance

@@ -56,7 +56,7 @@ impl<O: PieceOutput> OutputMode<O> for EachPiece {
     ) -> Outcome {
         match value {
             Json::String(text) => put_shown(at, entities, escapes, text.as_str(), path, line, sink),
-            _ => match value.render(at.surroundings.alloc) {
+            _ => match value.render(at.surroundings.placement.alloc) {
                 Ok(text) => put_shown(at, entities, escapes, text.as_str(), path, line, sink),
                 Err(_) => Outcome::OutOfMemory,
             },
@@ -123,7 +123,7 @@ fn put<O: PieceOutput, L: ValuePath>(
     if text.is_empty() {
         return Outcome::Done;
     }
-    let alloc = at.surroundings.alloc;
+    let alloc = at.surroundings.placement.alloc;
     let Ok(iterations) = at.surroundings.iterations.indexes(alloc) else {
         return Outcome::OutOfMemory;
     };
@@ -131,7 +131,14 @@ fn put<O: PieceOutput, L: ValuePath>(
         return Outcome::OutOfMemory;
     };
     let origin = origin(at, kind, iterations.as_slice(), &names);
-    put_from(alloc, at.surroundings.indent, text, &origin, line, sink)
+    put_from(
+        alloc,
+        at.surroundings.placement.indent,
+        text,
+        &origin,
+        line,
+        sink,
+    )
 }
 
 // Emits the pieces of a text that a value is rendered as. The text with entities is built if they are asked for.
@@ -152,7 +159,7 @@ fn put_shown<O: PieceOutput, L: ValuePath>(
     if !entities {
         return put(at, value_kind(escapes), text, path, line, sink);
     }
-    match escape_html(at.surroundings.alloc, text) {
+    match escape_html(at.surroundings.placement.alloc, text) {
         Ok(escaped) => put(at, value_kind(escapes), escaped.as_str(), path, line, sink),
         Err(_) => Outcome::OutOfMemory,
     }
@@ -182,7 +189,7 @@ fn put_piece<O: PieceOutput>(
         (record { text = text.now; provenance = provenance_in at.entry (kind_seen kind) None }) at_boolean_text sink result }
     ensures same { IsSame sink.old sink.new }
 {
-    let alloc = at.surroundings.alloc;
+    let alloc = at.surroundings.placement.alloc;
     let Ok(iterations) = at.surroundings.iterations.indexes(alloc) else {
         return Outcome::OutOfMemory;
     };
@@ -212,7 +219,7 @@ fn location<'p>(at: ElementLocation<'p>, iterations: &'p [usize]) -> Location<'p
     ensures { iterations.now ≡ indexes_of at.entry.surroundings.now.iterations.now → location_seen result ≡ whereabouts_in at.entry }
 {
     Location {
-        template: at.surroundings.template,
+        template: at.surroundings.placement.template,
         position: at.surroundings.mapping.get(at.index),
         iterations,
     }

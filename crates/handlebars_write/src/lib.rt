@@ -6,6 +6,7 @@ pub mod each_piece;
 pub mod location;
 pub mod outcome;
 pub mod output_mode;
+mod plain;
 pub mod sink;
 pub mod text_only;
 mod to_output;

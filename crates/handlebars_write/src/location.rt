@@ -39,15 +39,21 @@ impl IterationsAround<'_> {
     }
 }
 
-/// What surrounds the elements of a tree as they write.
+/// What is constant within a partial call.
 #[derive(Clone, Copy)]
-pub struct Surroundings<'r> {
+pub struct Placement<'r> {
     /// The allocator of the rendering.
     pub alloc: Global,
     /// The indentation in force, if there is one.
     pub indent: Option<&'r str>,
     /// The template that contains the tree.
     pub template: TemplateReference<'r>,
+}
+
+/// What surrounds the elements of a tree as they write.
+#[derive(Clone, Copy)]
+pub struct Surroundings<'r> {
+    pub placement: &'r Placement<'r>,
     /// The iterations of `each` around the elements of the tree.
     pub iterations: &'r IterationsAround<'r>,
     /// The positions of the elements of the tree.

@@ -60,8 +60,8 @@ pub(crate) fn show_to<O: Output>(
 }
 
 // Writes a text with entities.
-#[inline(always)]
-fn escape_to<O: Output>(alloc: Global, text: &str, out: &mut O) -> Outcome
+#[inline(never)]
+pub(crate) fn escape_to<O: Output>(alloc: Global, text: &str, out: &mut O) -> Outcome
     ensures { TextWritten (escaped text.now) false O.may_give (O.held out.old) result (O.held out.new) }
 {
     match write_escaped(out, text) {

@@ -109,9 +109,9 @@ fn show_by_user<O, T: OutputMode<O>, P: Registered, L: ValuePath>(
     ensures same { IsSame sink.old sink.new }
     ensures unchanged { IsLineUnchanged line result }
 {
-    match escaped(parts, at.surroundings.alloc, value) {
+    match escaped(parts, at.surroundings.placement.alloc, value) {
         Ok(text) => T::put_escaped(at, text.as_str(), path, line, sink),
-        Err(e) => Outcome::from(BoxedError::new(at.surroundings.alloc, e)),
+        Err(e) => Outcome::from(BoxedError::new(at.surroundings.placement.alloc, e)),
     }
 }
 

@@ -1,5 +1,5 @@
 use Rattle.handlebars_write.proofs.Puts.{text_ahead}
-use Rattle.handlebars_write.proofs.text_only.write_as_is.Goals as goal
+use Rattle.handlebars_write.proofs.text_only.write_inlined.Goals as goal
 
 pub returns-in-Out-clause-writes : goal.returns-in-Out-clause-writes
 returns-in-Out-clause-writes g c = rw c.in-Out.is c.write_to.ensures

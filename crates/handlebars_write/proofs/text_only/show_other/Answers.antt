@@ -2,7 +2,7 @@ use Rattle.serde_json.specs.View.{view}
 use Rattle.handlebars_base.specs.Shown.{shown}
 use Rattle.handlebars_scope.specs.LineView.{line_of}
 use Rattle.handlebars_write.proofs.Puts.{plain-at, text_failed, text_put}
-use Rattle.handlebars_write.proofs.text_only.show.Goals as goal
+use Rattle.handlebars_write.proofs.text_only.show_other.Goals as goal
 
 pub returns-in-Done-clause-puts : goal.returns-in-Done-clause-puts
 returns-in-Done-clause-puts g c = λ s indent same.
