@@ -61,7 +61,7 @@ last_of b = last_names (out-Descent b).last
 abbrev pub kind_view : LayerKind → chain.LayerKind
 kind_view (Iteration index key last names) = chain.iteration_layer index (option_map (λ k. k.now) key) last (names_seen names.now)
 kind_view (With names) = chain.with_layer (names_seen names.now)
-kind_view (Partial hash) = chain.partial_layer (hash_values hash.now.entries)
+kind_view (Partial hash) = chain.partial_layer (hash_values hash.now)
 
 abbrev pub layer_chain : Layer-F Chain → Chain
 layer_chain Layer-F.Root = chain.no_layer

@@ -11,7 +11,6 @@ ghost use Rattle.handlebars_layers.specs.Layering.{bound_names};
 use crate::destination::FrameValue;
 use crate::layer::{BlockNames, LayerKind};
 use handlebars_template::template::{BlockParam, Parameter};
-use std::collections::BTreeMap;
 
 /// Returns the names that a block binds. A parameter that is not a name binds nothing; if one of two is not a name, the block
 /// binds neither. Only hand-built templates have such parameters.
@@ -72,8 +71,8 @@ fn binds_names(names: &BlockNames) -> bool
     }
 }
 
-fn has_values(hash: &BTreeMap<&str, FrameValue>) -> bool
-    ensures { result ≡ is_some_value (hash_values hash.now.entries) }
+fn has_values(hash: &[(&str, FrameValue)]) -> bool
+    ensures { result ≡ is_some_value (hash_values hash.now) }
 {
     hash.len() > 0
 }

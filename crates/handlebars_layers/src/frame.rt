@@ -23,7 +23,6 @@ use handlebars_scope::block::{BlockContext, BlockParamHolder};
 use handlebars_scope::context::looked_up::LookedUp;
 use handlebars_scope::context::members::along_names;
 use handlebars_scope::context::reached::Reached;
-use std::collections::BTreeMap;
 
 impl<'r, 'a> Scopes<'r, 'a> {
     ghost use Rattle.std.specs.Prelude.{◌≡◌, [], option_map};
@@ -253,17 +252,18 @@ fn value_bound<'r>(names: &BlockNames<'r>, base: Bound<'r>, name: &str) -> Optio
     }
 }
 
-// Returns the value of the hash argument of a name, if there is one.
-fn bound_hash<'r>(hash: &'r BTreeMap<&'r str, FrameValue<'r>>, name: &str) -> Option<Bound<'r>>
-    ensures { option_map bound_view result ≡ with_bound (hash_values hash.now.entries) nothing_at name.now }
+// Returns the value of the hash argument of a name, if there is one: of the last one, if several have the name.
+fn bound_hash<'r>(hash: &'r [(&'r str, FrameValue<'r>)], name: &str) -> Option<Bound<'r>>
+    ensures { option_map bound_view result ≡ with_bound (hash_values hash.now) nothing_at name.now }
 {
-    if hash.len() == 0 {
-        return None;
+    let mut left = hash;
+    'hash: while let [rest @ .., last] = left {
+        if last.0 == name {
+            return Some(Bound::Value(last.1));
+        }
+        left = rest;
     }
-    match hash.get(name) {
-        Some(value) => Some(Bound::Value(*value)),
-        None => None,
-    }
+    None
 }
 
 // Returns the key of an iteration, or its index if it has no key.

@@ -5,7 +5,7 @@ use handlebars_base::json::path::PathSeg;
 use handlebars_base::json::value::Json;
 use handlebars_helpers::iteration::Iteration;
 use handlebars_scope::block::BlockContext;
-use std::collections::{BTreeMap, VecDeque};
+use std::collections::VecDeque;
 
 /// A scope frame, with those around it.
 #[derive(Clone, Copy)]
@@ -63,9 +63,10 @@ pub enum LayerKind<'r> {
     With {
         names: &'r BlockNames<'r>,
     },
-    /// A partial call: its hash arguments. It has the variables of the frame around it.
+    /// A partial call: its hash arguments by their keys, of which the last one counts where two are equal. It has the variables
+    /// of the frame around it.
     Partial {
-        hash: &'r BTreeMap<&'r str, FrameValue<'r>>,
+        hash: &'r [(&'r str, FrameValue<'r>)],
     },
 }
 
