@@ -256,12 +256,13 @@ fn value_bound<'r>(names: &BlockNames<'r>, base: Bound<'r>, name: &str) -> Optio
 fn bound_hash<'r>(hash: &'r [(&'r str, FrameValue<'r>)], name: &str) -> Option<Bound<'r>>
     ensures { option_map bound_view result ≡ with_bound (hash_values hash.now) nothing_at name.now }
 {
-    let mut left = hash;
-    'hash: while let [rest @ .., last] = left {
-        if last.0 == name {
-            return Some(Bound::Value(last.1));
+    let mut left = hash.len();
+    'hash: while left > 0 {
+        left -= 1;
+        let argument = &hash[left];
+        if argument.0 == name {
+            return Some(Bound::Value(argument.1));
         }
-        left = rest;
     }
     None
 }

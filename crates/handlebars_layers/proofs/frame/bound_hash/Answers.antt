@@ -1,15 +1,16 @@
-use Rattle.std.proofs.Common.{◌∙◌, ap, option_map}
-use Rattle.handlebars_scope.specs.Scopes.{bound_value}
-use Rattle.handlebars_layers.specs.FrameValues.{value_data}
-use Rattle.handlebars_layers.proofs.Hash.{hash-named}
+use Rattle.std.proofs.Common.{◌∙◌, arith, sym}
+use Rattle.handlebars_scope.specs.Scopes.{nothing_at}
+use Rattle.handlebars_layers.proofs.Hash.{hash-here, hash-before}
 use Rattle.handlebars_layers.proofs.frame.bound_hash.Goals as goal
 
-pub returns-in-Some : goal.returns-in-Some
-returns-in-Some c =
-    ap (option_map (λ v. bound_value (value_data v))) c.in-Some.ensures.value
-    ∙ hash-named c.args.hash.now.entries c.args.name.now c.len.ensures.ordered
+pub returns-then-eq : goal.returns-then-eq
+returns-then-eq c =
+    hash-here c.args.hash.now c.hash.left c.index-hash-left.result nothing_at c.args.name.now (omega arith) c.hash.invariant.inside
+    c.index-hash-left.is (sym c.eq.ensures ∙ c.if-eq.true) ∙ c.hash.invariant.bound
 
-pub returns-in-None : goal.returns-in-None
-returns-in-None c =
-    ap (option_map (λ v. bound_value (value_data v))) c.in-None.ensures.value
-    ∙ hash-named c.args.hash.now.entries c.args.name.now c.len.ensures.ordered
+pub hash-preserved : goal.hash-preserved
+hash-preserved c = record {
+  inside = omega arith;
+  bound = hash-before c.args.hash.now c.hash.left c.index-hash-left.result nothing_at c.args.name.now (omega arith)
+      c.hash.invariant.inside c.index-hash-left.is (sym c.eq.ensures ∙ c.if-eq.false) ∙ c.hash.invariant.bound;
+}
