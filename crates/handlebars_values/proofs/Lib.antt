@@ -1,13 +1,14 @@
 mod Pushed
 mod ChangedData
 mod NamedTargets
-pub mod BoundCalls
+pub mod Dispatching
 mod ByKey
 mod MemberCounts
-mod RequiredParams
-mod EachChoices
+mod Decisions
+mod Evaluated
+mod TruthsOf
 mod Merging
 mod PassedInOrder
 mod PathValues
 mod PartialBases
-mod SameKeys
+mod BoundHash

@@ -2,7 +2,8 @@
 use Rattle.std.proofs.Common.{◌≡◌, ◌≢◌, ◌<◌, ◌≤◌, List, [], ◌∷◌, length, get_or, map, Some, Result, Ok, Err, refl, sym, ap, ◌∙◌, subst, arith}
 use Rattle.std.specs.Prelude.{IsErrAnd, slice_get}
 use Rattle.serde_json.specs.Data.{Data}
-use Rattle.handlebars_base.specs.Answers.{gives, fails}
+use Rattle.handlebars_base.specs.Answers.{answer_map, gives, fails}
+use Rattle.handlebars_base.specs.Path.{relative}
 use Rattle.handlebars_base.specs.PathAndData.{PathAndData}
 use Rattle.handlebars_base.specs.Reasons.{Refusal, out_of_memory}
 use Rattle.handlebars_base.specs.RenderRefusals.{reason_in, refusal_of}
@@ -14,11 +15,12 @@ use Rattle.handlebars_semantics.specs.Including.{base_value, this_param}
 use Rattle.handlebars_semantics.specs.Questions.{value_of}
 use Rattle.handlebars_semantics.specs.State.{Setting, State}
 use Rattle.handlebars_semantics.specs.Steps.{ask, return, ◌>>=◌}
-use Rattle.handlebars_semantics.specs.Values.{HasValue}
+use Rattle.handlebars_semantics.specs.Values.{HasValue, path_value}
 use Rattle.handlebars_expand.specs.Boxed.{answer_of, error_of}
 use Rattle.handlebars_expand.specs.View.{GivesValue, ValueFails}
 use Rattle.handlebars_expand.specs.declared.boxed.BoxedError.{BoxedError}
 use Rattle.handlebars_expand.proofs.Asked.{gives-ask, fails-ask, fails-bind}
+use Rattle.handlebars_values.proofs.PathValues.{answer_map-fails, answer_map-gives}
 use Rattle.handlebars_values.specs.Inclusions.{HasBase, base_data}
 use Rattle.handlebars_values.specs.declared.inclusion.PartialBase.{PartialBase}
 
@@ -58,22 +60,23 @@ module _ (p : Setting) (s : State) where
       fails-bind p (ask (value_of this_param)) (λ found. return (data_in found)) (fails-ask p (value_of this_param) has)
 
   module _ (v : CallView) (none : v.params ≡ []) where
-    -- a base that is what was found, merged with the hash arguments
-    pub has-current : (found : Found) (d : Data) (b : PartialBase) → HasValue p s this_param (gives found) → data_in found ≡ d
+    -- a base that is the data of what was found, merged with the hash arguments
+    pub has-current : (d : Data) (b : PartialBase) → answer_map data_in (path_value p s (relative [] [])) ≡ gives d
         → base_data b ≡ merge d (hash_data v.hash) → HasBase p v s base_data (Ok b)
-    has-current found d b has same is = (
-      data_in found,
-      subst (λ (z : List PathAndData). GivesValue p (base_value z) s (data_in found)) (sym none) (gives-this found has),
-      is ∙ ap (λ (z : Data). merge z (hash_data v.hash)) (sym same),
-    )
+    has-current d b is same =
+        let x = answer_map-gives data_in (path_value p s (relative [] [])) d is in (
+          data_in x.0,
+          subst (λ (z : List PathAndData). GivesValue p (base_value z) s (data_in x.0)) (sym none) (gives-this x.0 (sym x.1)),
+          same ∙ ap (λ (z : Data). merge z (hash_data v.hash)) (sym x.2),
+        )
 
     -- an error that is propagated
     pub has-no-current : (r : Result PartialBase BoxedError) (e : BoxedError) → IsErrAnd r (λ d. d ≡ e)
-        → (reason_in (error_of e) ≢ out_of_memory → HasValue p s this_param (fails (refusal_of (error_of e))))
+        → (reason_in (error_of e) ≢ out_of_memory → answer_map data_in (path_value p s (relative [] [])) ≡ fails (refusal_of (error_of e)))
         → HasBase p v s base_data (answer_of r)
     has-no-current (Ok b) e is why = absurd is
     has-no-current (Err d) e is why = λ other.
         subst (λ (z : List PathAndData). ValueFails p (base_value z) s (refusal_of (error_of d))) (sym none)
         (fails-this (refusal_of (error_of d))
         (subst (λ (z : BoxedError). reason_in (error_of z) ≢ out_of_memory → HasValue p s this_param (fails (refusal_of (error_of z))))
-        (sym is) why other))
+        (sym is) (λ memory. sym (answer_map-fails data_in (path_value p s (relative [] [])) (refusal_of (error_of e)) (why memory))) other))

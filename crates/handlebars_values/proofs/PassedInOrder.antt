@@ -12,7 +12,7 @@ use Rattle.handlebars_base.specs.Bytes.{Text}
 use Rattle.handlebars_base.specs.PathAndData.{PathAndData, path_and_data}
 use Rattle.handlebars_base.specs.declared.json.value.path_and_json.PathAndJson.{PathAndJson}
 use Rattle.handlebars_values.specs.ParamView.{argument_view}
-use Rattle.handlebars_values.specs.Passed.{call_of, passed_view}
+use Rattle.handlebars_values.specs.Passed.{call_of}
 use Rattle.handlebars_values.specs.View.{arguments_seen}
 use Rattle.handlebars_values.specs.declared.param_value.Argument.{Argument}
 
@@ -100,10 +100,11 @@ passed-next f g all left rest es new k v y ordered whole here same added =
 
 -- ---- the view of a call
 
-pub passed_view-seen : (name : Text) (ps : List PathAndJson) (qs : List Argument) (hs : List (Bor Text × PathAndJson))
+pub call_of-passed : (name : Text) (ps : List PathAndJson) (qs : List Argument) (hs : List (Bor Text × PathAndJson))
     (gs : List (Bor Text × Argument)) → map path_and_data ps ≡ map argument_view qs
     → map (λ h. (h.0.now, path_and_data h.1)) hs ≡ arguments_seen gs
-    → passed_view name ps hs ≡ call_of name (map argument_view qs) (arguments_seen gs)
-passed_view-seen name ps qs hs gs params hash =
+    → call_of name (map path_and_data ps) (map (λ h. (h.0.now, path_and_data h.1)) hs)
+    ≡ call_of name (map argument_view qs) (arguments_seen gs)
+call_of-passed name ps qs hs gs params hash =
     ap (λ (z : List PathAndData). call_of name z (map (λ h. (h.0.now, path_and_data h.1)) hs)) params
     ∙ ap (λ (z : List (Text × PathAndData)). call_of name (map argument_view qs) z) hash

@@ -1,10 +1,10 @@
 -- What paths lead to in the state of a run.
-use Rattle.std.proofs.Common.{◌≡◌, Option, None, Some, Result, Ok, Err, ap, ◌∙◌, subst}
+use Rattle.std.proofs.Common.{◌≡◌, Option, None, Some, Result, Ok, Err, refl, ap, ◌∙◌, subst}
 use Rattle.std.specs.Prelude.{Bool, IsErrAnd, List, unwrap_or}
 use Rattle.serde_json.specs.Data.{Data}
-use Rattle.handlebars_base.specs.Answers.{Answer, Answers, answer_map}
+use Rattle.handlebars_base.specs.Answers.{Answer, Answers, answer_map, fails, gives}
 use Rattle.handlebars_base.specs.Path.{Reference}
-use Rattle.handlebars_base.specs.Reasons.{out_of_memory}
+use Rattle.handlebars_base.specs.Reasons.{Refusal, out_of_memory}
 use Rattle.handlebars_base.specs.RenderRefusals.{reason_in}
 use Rattle.handlebars_base.specs.Scoped.{Found, present_in}
 use Rattle.handlebars_base.specs.declared.error.render_error.RenderError.{RenderError}
@@ -18,8 +18,12 @@ use Rattle.handlebars_expand.specs.View.{Yields}
 use Rattle.handlebars_expand.specs.declared.boxed.BoxedError.{BoxedError}
 use Rattle.handlebars_expand.proofs.Values.{yields-answer}
 use Rattle.handlebars_layers.specs.Chain.{Chain, frames}
+use Rattle.handlebars_layers.specs.Destination.{IsDestination}
 use Rattle.handlebars_layers.specs.ScopeFrames.{ByDepth, scope_frames}
+use Rattle.handlebars_layers.specs.declared.destination.Destination.{Destination}
+use Rattle.handlebars_layers.specs.declared.destination.Destination.TheVariants.{Node, Value, Nothing, NoIndex}
 use Rattle.handlebars_layers.proofs.ScopeFrames.{ignore-partials}
+use Rattle.handlebars_values.specs.Judgement.{IsNodeOf}
 
 -- Partials are no scope, so paths are resolved in the frames of the layers alone.
 module _ (p : Setting) (s : State) (at : ByDepth) (layers : Chain) (r : Reference) (here : s.blocks ≡ scope_frames at layers) where
@@ -58,3 +62,33 @@ pub yields-out_of_memory : {T A : Type 0} (m : Asks A) (seen : T → A) (r : Res
     → IsErrAnd r (λ e. reason_in (error_of e) ≡ out_of_memory) → Yields m seen (answer_of r)
 yields-out_of_memory m seen (Ok x) is = absurd is
 yields-out_of_memory m seen (Err e) is = λ other. absurd (other is)
+
+pub answers-out_of_memory : {T A : Type 0} (seen : T → A) (a : Answer A) (r : Result T BoxedError)
+    → IsErrAnd r (λ e. reason_in (error_of e) ≡ out_of_memory) → Answers seen (answer_of r) a
+answers-out_of_memory seen a (Ok x) is = absurd is
+answers-out_of_memory seen a (Err e) is = λ other. absurd (other is)
+
+-- ---- parts of answers
+
+pub answers-map : {T A B : Type 0} (seen : T → A) (f : A → B) (a : Answer A) (r : Result T RenderError) → Answers seen r a
+    → Answers (λ x. f (seen x)) r (answer_map f a)
+answers-map seen f a (Ok x) is = ap (answer_map f) is
+answers-map seen f a (Err e) is = λ other. ap (answer_map f) (is other)
+
+-- the answer whose part is given, or that fails
+pub answer_map-gives : {A B : Type 0} (f : A → B) (a : Answer A) (b : B) → answer_map f a ≡ gives b
+    → (x : A) × (a ≡ gives x) × (f x ≡ b)
+answer_map-gives f (gives x) b is = (x, refl, cc)
+answer_map-gives f (fails r) b is = absurd cc
+
+pub answer_map-fails : {A B : Type 0} (f : A → B) (a : Answer A) (r : Refusal) → answer_map f a ≡ fails r → a ≡ fails r
+answer_map-fails f (gives x) r is = absurd cc
+answer_map-fails f (fails q) r is = let same : q ≡ r = cc in ap (λ (z : Refusal). fails z) same
+
+-- ---- values of the data that were found
+
+pub destination-node : (a : Answer Found) (d : Destination) → IsDestination a d → IsNodeOf a d
+destination-node a (Node v) is = is
+destination-node a (Value v) is = tt
+destination-node a Nothing is = tt
+destination-node a (NoIndex name) is = tt

@@ -5,8 +5,9 @@ use Rattle.handlebars_base.specs.Reasons.{out_of_memory}
 use Rattle.handlebars_base.specs.RenderRefusals.{reason_in, refusal_of}
 use Rattle.handlebars_base.specs.Scoped.{Found}
 use Rattle.handlebars_base.specs.declared.error.render_error.RenderError.{RenderError}
-use Rattle.handlebars_layers.specs.Destination.{destination_of}
+use Rattle.handlebars_layers.specs.Destination.{IsDestination}
 use Rattle.handlebars_layers.specs.declared.destination.Destination.{Destination}
+use Rattle.handlebars_layers.specs.declared.destination.Destination.TheVariants.{Node, Value, Nothing, NoIndex}
 use Rattle.handlebars_semantics.specs.State.{Parts, Setting, State}
 use Rattle.handlebars_values.specs.View.{CapturedIn, setting_in, state_with, within}
 use Rattle.handlebars_values.specs.declared.environment.Environment as declared
@@ -19,5 +20,12 @@ InState parts x run says = (captured : CapturedIn (within x)) → says (setting_
 -- What is found represents this answer, which may be an error. A call that fails, other than out of memory, fails with the
 -- answer's error.
 abbrev pub LeadsTo : Answer Found → Result Destination RenderError → Type 0
-LeadsTo a (Ok found) = destination_of found ≡ a
+LeadsTo a (Ok found) = IsDestination a found
 LeadsTo a (Err e) = reason_in e ≢ out_of_memory → a ≡ fails (refusal_of e)
+
+-- If a value of the data was found, it is what this answer gives.
+abbrev pub IsNodeOf : Answer Found → Destination → Type 0
+IsNodeOf a (Node v) = IsDestination a (Node v)
+IsNodeOf a (Value v) = Unit {0}
+IsNodeOf a Nothing = Unit {0}
+IsNodeOf a (NoIndex name) = Unit {0}

@@ -2,7 +2,9 @@ pub mod ParamView
 pub mod RunView
 pub mod View
 pub mod Judgement
+pub mod Truths
 pub mod ChoiceView
-pub mod Bound
+pub mod BuiltIn
+pub mod Dispatch
 pub mod Inclusions
 pub mod Passed

@@ -6,8 +6,7 @@ use Rattle.handlebars_base.specs.Bytes.{Text}
 use Rattle.handlebars_base.specs.PathAndData.{PathAndData}
 use Rattle.handlebars_scope.specs.Contexts.{data_of}
 use Rattle.handlebars_scope.specs.Scopes.{Frame}
-use Rattle.handlebars_template.specs.TreeView.{tree_view, binding_view, body_of, binding_of}
-use Rattle.handlebars_helpers.specs.CallView.{CallView, HelperView}
+use Rattle.handlebars_helpers.specs.CallView.{CallView}
 use Rattle.handlebars_semantics.specs.State.{CapturedBlocks, Parts, Setting, State}
 use Rattle.handlebars_layers.specs.Chain.{Chain, frames}
 use Rattle.handlebars_layers.specs.LayerView.{chain_of}
@@ -17,7 +16,6 @@ use Rattle.handlebars_expand.specs.declared.ahead.Captured.{Captured}
 use Rattle.handlebars_values.specs.ParamView.{argument_view}
 use Rattle.handlebars_values.specs.RunView.{run_state}
 use Rattle.handlebars_values.specs.declared.called.Called.{Called}
-use Rattle.handlebars_values.specs.declared.called.HelperCall.{HelperCall}
 use Rattle.handlebars_values.specs.declared.param_value.Argument.{Argument}
 use Rattle.handlebars_values.specs.declared.environment.Environment as declared
 use Rattle.handlebars_values.specs.declared.run.Run.{Run}
@@ -39,16 +37,6 @@ called_view c = record {
   hash = arguments_seen c.hash.entries;
 }
 
--- what a built-in helper is asked: the call, the names that it binds, its body and its inverse, and whether it is a block
-abbrev pub asked_view : HelperCall → HelperView
-asked_view h = record {
-  call = called_view h.call.now;
-  binding = binding_of (option_map (λ b. binding_view b.now) h.block_param);
-  body = body_of (option_map (λ t. tree_view t.now) h.template);
-  inverse = body_of (option_map (λ t. tree_view t.now) h.inverse);
-  block = h.block;
-}
-
 -- ---- what holds within an inclusion
 
 -- What the code has of it: what is captured for partial blocks, if anything is; how many inclusions are being rendered; the
@@ -63,7 +51,7 @@ abbrev pub within : {P : Type 0} → declared.Environment P → Within
 within x = record {
   captured = option_map (λ k. k.now) x.inclusion.now.captured;
   inclusions = x.inclusion.now.inclusions;
-  indent = option_map (λ t. t.now) x.inclusion.now.indent;
+  indent = option_map (λ t. t.now) x.inclusion.now.placement.indent;
   layers = chain_of x.innermost.nearest.now;
 }
 

@@ -1,21 +1,15 @@
 //! What the boolean helpers and `len` evaluate to.
 
-ghost use Rattle.std.specs.Prelude.{◌≡◌, IfOk, codes, map};
+ghost use Rattle.std.specs.Prelude.{◌≡◌, ◌&&◌, ◌||◌, List, map};
 ghost use Rattle.serde_json.specs.View.{view};
-ghost use Rattle.handlebars_base.specs.Answers.{Answers};
-ghost use Rattle.handlebars_base.specs.Reasons.{param_not_found_for_name};
-ghost use Rattle.handlebars_base.specs.RenderRefusals.{plain_refusal, refusal_of};
-ghost use Rattle.handlebars_helpers.specs.Boolean.{all_true, differ, greater, greater_or_equal, len, less, less_or_equal, negation, size, some_true};
-ghost use Rattle.handlebars_values.specs.ParamView.{argument_view};
+ghost use Rattle.handlebars_base.specs.PathAndData.{PathAndData};
+ghost use Rattle.handlebars_helpers.specs.Boolean.{differ, greater, greater_or_equal, less, less_or_equal, size};
+ghost use Rattle.handlebars_helpers.specs.CallView.{plain_value};
+ghost use Rattle.handlebars_values.specs.BuiltIn.{test_name, truth_of};
 ghost use Rattle.handlebars_values.specs.ChoiceView.{test_of};
-ghost use Rattle.handlebars_values.specs.View.{asked_view};
+ghost use Rattle.handlebars_values.specs.Truths.{ShowsTruths};
 
-use crate::called::HelperCall;
-use crate::param_value::Argument;
-use crate::params::parameter_value;
-use handlebars_base::error::{RenderError, RenderErrorReason};
 use handlebars_base::json::value::{Json, JsonTruthy, compare, equal};
-use std::alloc::{AllocError, Global};
 use std::cmp::Ordering;
 
 /// A test of two values.
@@ -40,6 +34,20 @@ impl Test {
             Test::GreaterOrEqual => greater_or_equal(left, right),
             Test::Less => less(left, right),
             Test::LessOrEqual => less_or_equal(left, right),
+        }
+    }
+
+    /// Returns the name of the helper that tests two values.
+    pub(crate) fn name(self) -> &'static str
+        ensures { result.now ≡ test_name self }
+    {
+        match self {
+            Test::Equal => "eq",
+            Test::Differ => "ne",
+            Test::Greater => "gt",
+            Test::GreaterOrEqual => "gte",
+            Test::Less => "lt",
+            Test::LessOrEqual => "lte",
         }
     }
 }
@@ -95,69 +103,50 @@ fn less_or_equal(left: &Json, right: &Json) -> bool
     }
 }
 
-/// `not`.
-pub(crate) fn negation(strict: bool, helper: HelperCall<'_, '_>) -> Result<bool, RenderError>
-    ensures { Answers (λ b. b) result (negation strict (asked_view helper.entry).call) }
-{
-    let value = parameter_value(strict, helper, "not", 0)?;
-    Ok(!value.is_truthy(false))
+/// Whether all, and whether some, of the values so far count as true.
+#[derive(Clone, Copy)]
+pub(crate) struct Truths {
+    pub(crate) all: bool,
+    pub(crate) some: bool,
 }
 
-/// `and`.
-pub(crate) fn all_true(params: &Vec<Argument<'_>>) -> bool
-    ensures { result ≡ all_true (map argument_view params.now.items) }
-{
-    'params: for param in params {
-        if !param.json().is_truthy(false) {
-            return false;
+impl Truths {
+    /// Returns what holds of values that a local helper passes.
+    #[inline(always)]
+    pub(crate) fn of(constants: &[Json]) -> Truths
+        ensures { ShowsTruths (map (λ v. plain_value (view v)) constants.now) result }
+    {
+        let mut truths = Truths {
+            all: true,
+            some: false,
+        };
+        'constants: for constant in constants {
+            truths = truths.and(constant.is_truthy(false));
+        }
+        truths
+    }
+
+    /// Returns what holds once there is one more value, which counts as true or not.
+    pub(crate) fn and(self, truth: bool) -> Truths
+        ensures all { result.all ≡ (self.all && truth) }
+        ensures some { result.some ≡ (self.some || truth) }
+    {
+        Truths {
+            all: self.all && truth,
+            some: self.some || truth,
         }
     }
-    true
-}
 
-/// `or`.
-pub(crate) fn some_true(params: &Vec<Argument<'_>>) -> bool
-    ensures { result ≡ some_true (map argument_view params.now.items) }
-{
-    'params: for param in params {
-        if param.json().is_truthy(false) {
-            return true;
-        }
+    /// Returns whether all count as true, or else whether some does.
+    pub(crate) fn holds(self, all: bool) -> bool
+        ensures { (ps : List PathAndData) → ShowsTruths ps self → result ≡ truth_of all ps }
+    {
+        if all { self.all } else { self.some }
     }
-    false
-}
-
-/// `len`: returns the size of the first parameter. Fails with `ParamNotFoundForName` if there is none or, in
-/// strict mode, if its value is missing.
-pub(crate) fn len(
-    alloc: Global,
-    strict: bool,
-    helper: HelperCall<'_, '_>,
-) -> Result<usize, RenderError>
-    ensures { Answers (λ n. n) result (len strict (asked_view helper.entry).call) }
-{
-    match helper.param(0) {
-        Some(param) => {
-            if strict && param.is_missing() {
-                Err(no_x(alloc)?)
-            } else {
-                Ok(size(param.json()))
-            }
-        }
-        None => Err(no_x(alloc)?),
-    }
-}
-
-// The error of a call without its parameter.
-fn no_x(alloc: Global) -> Result<RenderError, AllocError>
-    ensures { IfOk result (λ e. refusal_of e ≡ plain_refusal (param_not_found_for_name (codes "len") (codes "x"))) }
-{
-    let name = String::from_str(alloc, "x")?;
-    Ok(RenderErrorReason::ParamNotFoundForName("len", name).into())
 }
 
 // The number of bytes of a string, or of members of an array or an object; 0 for any other value.
-fn size(value: &Json) -> usize
+pub(crate) fn size(value: &Json) -> usize
     ensures { result ≡ size (view value.now) }
 {
     match value {

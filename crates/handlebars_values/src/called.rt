@@ -1,51 +1,34 @@
-//! Calls, what helpers see of them, and the values of calls in parentheses.
+//! Calls and other tags whose values are known, and what user-defined parts see of them.
 
-ghost use Rattle.std.specs.Prelude.{◌≡◌, ◌++◌, ◌∷◌, [], IfErr, IfOk, Some, false, map, option_map, string_bytes};
+ghost use Rattle.std.specs.Prelude.{◌≡◌, ◌++◌, IfOk, Some, map, option_map, string_bytes};
 ghost use Rattle.std.specs.Cow.{cow_str_bytes};
-ghost use Rattle.serde_json.specs.Data.{string};
 ghost use Rattle.serde_json.specs.View.{view};
-ghost use Rattle.handlebars_base.specs.Answers.{IsRefusal};
-ghost use Rattle.handlebars_base.specs.Reasons.{helper_not_found, out_of_memory};
-ghost use Rattle.handlebars_base.specs.RenderRefusals.{plain_refusal, reason_in};
 ghost use Rattle.handlebars_template.specs.Tree.{call_binding, decorator_args, decorator_name};
 ghost use Rattle.handlebars_template.specs.TreeView.{call_view, decorator_view};
-ghost use Rattle.handlebars_helpers.specs.CallView.{hash_at, param_at};
+ghost use Rattle.handlebars_helpers.specs.CallView.{plain_value};
 ghost use Rattle.handlebars_helpers.specs.DecoratorsView.{tag_view};
-ghost use Rattle.handlebars_helpers.specs.Callee.{built};
-ghost use Rattle.handlebars_helpers.specs.View.{built_in_kind, helper_view};
+ghost use Rattle.handlebars_helpers.specs.View.{helper_view};
 ghost use Rattle.handlebars_semantics.specs.Execute.{view_with_bodies};
 ghost use Rattle.handlebars_semantics.specs.Inclusion.{joined_indent};
 ghost use Rattle.handlebars_semantics.specs.Means.{shown_tag};
-ghost use Rattle.handlebars_semantics.specs.State.{State, helper_for};
-ghost use Rattle.handlebars_semantics.specs.Values.{HasHelpedValue, HasRegisteredValue, HasView, choice_value, view_without_bodies};
-ghost use Rattle.handlebars_expand.specs.Boxed.{answer_of, error_of};
-ghost use Rattle.handlebars_expand.specs.Targets.{target_in};
+ghost use Rattle.handlebars_semantics.specs.Values.{HasView, view_without_bodies};
+ghost use Rattle.handlebars_expand.specs.Boxed.{answer_of};
 ghost use Rattle.handlebars_expand.specs.View.{Yields, name_alone};
-ghost use Rattle.handlebars_values.specs.Bound.{callee_in};
-ghost use Rattle.handlebars_values.specs.ChoiceView.{choice_seen};
 ghost use Rattle.handlebars_values.specs.Judgement.{InState};
-ghost use Rattle.handlebars_values.specs.ParamView.{argument_view, is_literal_value, value_found};
-ghost use Rattle.handlebars_values.specs.View.{asked_view, called_view, setting_in};
+ghost use Rattle.handlebars_values.specs.ParamView.{argument_view};
+ghost use Rattle.handlebars_values.specs.View.{called_view};
 
-use crate::bound::{BoundCall, asked_name, bind};
-use crate::choice::{Choice, Picked, choose};
 use crate::environment::Environment;
 use crate::expand::{expand_as_name, hash_values, params_values};
 use crate::param_value::{Argument, ParamValue};
-use crate::passed::{decorator_of, hash_passed, helper_in_parentheses, helper_of, params_passed};
+use crate::passed::{arguments_passed, decorator_of, helper_in_parentheses, helper_of};
 use crate::run::Run;
-use crate::target::helper_for;
-use crate::user::user_value;
-use handlebars_base::error::RenderErrorReason;
 use handlebars_base::json::value::Json;
 use handlebars_expand::boxed::BoxedError;
-use handlebars_expand::registered::{Registered, Target};
-use handlebars_helpers::built_in::BuiltIn;
+use handlebars_expand::registered::Registered;
 use handlebars_helpers::decorators::view::Decorator;
-use handlebars_helpers::user::Callee;
 use handlebars_helpers::view::Helper;
-use handlebars_template::template::{BlockParam, DecoratorTemplate, HelperTemplate, Template};
-use serde_json::Number;
+use handlebars_template::template::{DecoratorTemplate, HelperTemplate};
 use std::alloc::{AllocError, Global};
 use std::borrow::CowStr;
 use std::collections::BTreeMap;
@@ -68,39 +51,6 @@ impl<'v> Drop for Called<'v> {
     }
 }
 
-/// What a built-in helper is asked: a call, and what its block has.
-#[derive(Clone, Copy)]
-pub struct HelperCall<'h, 'v> {
-    pub call: &'h Called<'v>,
-    pub template: Option<&'v Template>,
-    pub inverse: Option<&'v Template>,
-    pub block_param: Option<&'v BlockParam>,
-    pub block: bool,
-}
-
-impl<'h, 'v> HelperCall<'h, 'v> {
-    /// Returns a parameter, counted from 0, or `None` if the call has no such parameter.
-    pub fn param(self, index: usize) -> Option<&'h Argument<'v>>
-        ensures { option_map (λ p. argument_view p.now) result ≡ param_at index (asked_view self.entry).call }
-    {
-        self.call.params.get(index)
-    }
-
-    /// Returns the parameters, in order.
-    pub fn params(self) -> &'h Vec<Argument<'v>>
-        ensures { map argument_view result.now.items ≡ (asked_view self.entry).call.params }
-    {
-        &self.call.params
-    }
-
-    /// Returns the hash argument with this key, or `None` if there is none.
-    pub fn hash_get(self, key: &str) -> Option<&'h Argument<'v>>
-        ensures { option_map (λ p. argument_view p.now) result ≡ hash_at key.now (asked_view self.entry).call }
-    {
-        self.call.hash.get(key)
-    }
-}
-
 impl<'v> Called<'v> {
     /// Returns a call by a name alone, with no parameters.
     pub fn alone(alloc: Global, name: CowStr<'v>) -> Called<'v>
@@ -110,32 +60,6 @@ impl<'v> Called<'v> {
             name,
             params: Vec::new(alloc),
             hash: BTreeMap::new(alloc),
-        }
-    }
-
-    /// Returns what a built-in helper is asked by a call, of a block or of an expression.
-    pub fn asked<'h>(&'h self, helper: &'v HelperTemplate, block: bool) -> HelperCall<'h, 'v>
-        ensures { asked_view result ≡ view_with_bodies block (call_view helper.now) (called_view self.now) }
-    {
-        HelperCall {
-            call: self,
-            template: helper.template.as_ref(),
-            inverse: helper.inverse.as_ref(),
-            block_param: helper.block_param.as_ref(),
-            block,
-        }
-    }
-
-    /// Returns what a built-in helper is asked by a call in parentheses, whose bodies count as absent.
-    pub fn asked_in_parentheses<'h>(&'h self, helper: &'v HelperTemplate) -> HelperCall<'h, 'v>
-        ensures { asked_view result ≡ view_without_bodies (call_binding (call_view helper.now)) (called_view self.now) }
-    {
-        HelperCall {
-            call: self,
-            template: None,
-            inverse: None,
-            block_param: helper.block_param.as_ref(),
-            block: false,
         }
     }
 
@@ -153,9 +77,8 @@ impl<'v> Called<'v> {
         ensures { IfOk result (λ view. helper_view view ≡ view_with_bodies block (call_view helper.now) (called_view self.entry)) }
     {
         let Called { name, params, hash } = self;
-        let params = params_passed(alloc, params)?;
-        let hash = hash_passed(alloc, hash)?;
-        Ok(helper_of(name, params, hash, helper, block))
+        let passed = arguments_passed(alloc, params, hash)?;
+        Ok(helper_of(name, passed, helper, block))
     }
 
     /// Returns what a user-defined helper sees of a call in parentheses, whose bodies count as absent.
@@ -172,9 +95,8 @@ impl<'v> Called<'v> {
             ≡ view_without_bodies (call_binding (call_view helper.now)) (called_view self.entry)) }
     {
         let Called { name, params, hash } = self;
-        let params = params_passed(alloc, params)?;
-        let hash = hash_passed(alloc, hash)?;
-        Ok(helper_in_parentheses(name, params, hash, helper))
+        let passed = arguments_passed(alloc, params, hash)?;
+        Ok(helper_in_parentheses(name, passed, helper))
     }
 
     /// Returns what a decorator sees of a tag: its values, its body and its indentation. The indentation is the one in force,
@@ -194,38 +116,18 @@ impl<'v> Called<'v> {
     {
         let indent = joined_indent(alloc, in_force, tag.indent.as_ref())?;
         let Called { name, params, hash } = self;
-        let params = params_passed(alloc, params)?;
-        let hash = hash_passed(alloc, hash)?;
-        Ok(decorator_of(name, params, hash, tag, indent))
+        let passed = arguments_passed(alloc, params, hash)?;
+        Ok(decorator_of(name, passed, tag, indent))
     }
 
-    /// Returns the call with this value as its only parameter.
+    /// Returns the call with these values before its parameters, which no text and no path of the template leads to.
     ///
     /// # Errors
     ///
     /// Fails if memory runs out.
-    pub fn over(self, alloc: Global, value: Argument<'v>) -> Result<Called<'v>, AllocError>
-        ensures { IfOk result (λ call. called_view call
-            ≡ record (called_view self.entry) { params = argument_view value.entry ∷ [] }) }
-    {
-        let Called {
-            name,
-            params: _,
-            hash,
-        } = self;
-        let mut params = Vec::new(alloc);
-        params.push(value)?;
-        Ok(Called { name, params, hash })
-    }
-
-    /// Returns the call with these values before its parameters.
-    ///
-    /// # Errors
-    ///
-    /// Fails if memory runs out.
-    pub fn after(self, values: Vec<Argument<'v>>) -> Result<Called<'v>, AllocError>
+    pub fn after(self, alloc: Global, constants: &[Json]) -> Result<Called<'v>, AllocError>
         ensures { IfOk result (λ call. called_view call ≡ record (called_view self.entry) {
-          params = map argument_view values.entry.items ++ (called_view self.entry).params;
+          params = map plain_value (map view constants.now) ++ (called_view self.entry).params;
         }) }
     {
         let Called {
@@ -233,7 +135,10 @@ impl<'v> Called<'v> {
             mut params,
             hash,
         } = self;
-        let mut all = values;
+        if constants.is_empty() {
+            return Ok(Called { name, params, hash });
+        }
+        let mut all = plain_values(alloc, constants)?;
         all.append(&mut params)?;
         Ok(Called {
             name,
@@ -243,8 +148,29 @@ impl<'v> Called<'v> {
     }
 }
 
-// The indentation in force, followed by the tag's own if there is one. If only the tag's own exists, it is borrowed.
-fn joined_indent<'v>(
+// Returns copies of values, which have no text and no path in the template.
+fn plain_values<'v>(alloc: Global, constants: &[Json]) -> Result<Vec<Argument<'v>>, AllocError>
+    ensures { IfOk result (λ values. map argument_view values.items ≡ map plain_value (map view constants.now)) }
+{
+    let mut values = Vec::with_capacity(alloc, constants.len())?;
+    'constants: for constant in constants {
+        values.push(plain(constant.clone()?))?;
+    }
+    Ok(values)
+}
+
+fn plain<'v>(constant: Json) -> Argument<'v>
+    ensures { argument_view result ≡ plain_value (view constant) }
+{
+    Argument::new(None, ParamValue::Computed(constant))
+}
+
+/// Returns the indentation in force, followed by the tag's own if there is one. If only the tag's own exists, it is borrowed.
+///
+/// # Errors
+///
+/// Fails if memory runs out.
+pub fn joined_indent<'v>(
     alloc: Global,
     in_force: Option<&str>,
     tag_indent: Option<&'v String>,
@@ -275,7 +201,7 @@ fn after(alloc: Global, outer: &str, tag_indent: Option<&String>) -> Result<Stri
 /// Returns the name of the tag of a decorator or of a partial call, and the values of its parameters and hash arguments.
 #[inline(always)]
 pub fn called_tag<'v, P: Registered>(
-    environment: &Environment<'v, 'v, P>,
+    environment: &'v Environment<'v, 'v, P>,
     run: &Run,
     tag: &'v DecoratorTemplate,
 ) -> Result<Called<'v>, BoxedError>
@@ -286,134 +212,4 @@ pub fn called_tag<'v, P: Registered>(
     let params = params_values(environment, run, &tag.params)?;
     let hash = hash_values(environment, run, &tag.hash)?;
     Ok(Called { name, params, hash })
-}
-
-/// Returns the value of a call in parentheses: the value that its helper chooses or offers, or else the text that a user-defined
-/// helper writes. Without any of these it is the empty text. A value that `lookup` picks is borrowed where it lasts longer than
-/// the call. A line of `log` goes to the logger.
-///
-/// # Errors
-///
-/// Fails with `HelperNotFound` if there is neither a helper of the name nor the hook, and otherwise if the helper fails.
-pub fn helped_value<'v, P: Registered>(
-    environment: &Environment<'v, 'v, P>,
-    run: &Run,
-    helper: &'v HelperTemplate,
-    call: Called<'v>,
-) -> Result<ParamValue<'v>, BoxedError>
-    ensures value { InState P.parts environment.now run.now (λ p s. Yields
-        (HasHelpedValue p s (helper_for (P.parts environment.now.inclusion.now.parts.now) s false (called_view call.entry).name)
-        (view_without_bodies (call_binding (call_view helper.now)) (called_view call.entry))) value_found (answer_of result)) }
-    ensures constant { IfOk result (λ found. is_literal_value found ≡ false) }
-{
-    match helper_for(environment.inclusion.parts, run, false, call.name.as_str()) {
-        Some(target) => target_value(environment, run, target, helper, call),
-        None => Err(helper_not_found(environment.inclusion.alloc, call.name.as_str())),
-    }
-}
-
-// The value of a call of this target.
-fn target_value<'v, P: Registered>(
-    environment: &Environment<'v, 'v, P>,
-    run: &Run,
-    target: Target,
-    helper: &'v HelperTemplate,
-    call: Called<'v>,
-) -> Result<ParamValue<'v>, BoxedError>
-    ensures value { InState P.parts environment.now run.now (λ p s. Yields
-        (HasHelpedValue p s (Some (target_in false (called_view call.entry).name target))
-        (view_without_bodies (call_binding (call_view helper.now)) (called_view call.entry))) value_found (answer_of result)) }
-    ensures constant { IfOk result (λ found. is_literal_value found ≡ false) }
-{
-    match bind(environment, run, target, false, call) {
-        Ok(bound) => bound_value(environment, run, helper, bound),
-        Err(e) => Err(e),
-    }
-}
-
-// The value of a bound call.
-fn bound_value<'v, P: Registered>(
-    environment: &Environment<'v, 'v, P>,
-    run: &Run,
-    helper: &'v HelperTemplate,
-    bound: BoundCall<'v>,
-) -> Result<ParamValue<'v>, BoxedError>
-    ensures value { InState P.parts environment.now run.now (λ p s. Yields
-        (HasRegisteredValue p s (callee_in bound.entry) (view_without_bodies (call_binding (call_view helper.now))
-        (called_view bound.entry.call))) value_found (answer_of result)) }
-    ensures constant { IfOk result (λ found. is_literal_value found ≡ false) }
-{
-    let (callee, asked_by, call) = bound.into_parts();
-    match callee {
-        Callee::Built(kind) => built_value(environment, kind, helper, &call),
-        Callee::User => {
-            let view = call.into_helper_in_parentheses(environment.inclusion.alloc, helper)?;
-            user_value(environment, run, asked_name(&asked_by, &view), &view)
-        }
-    }
-}
-
-// The value of a call of a built-in helper.
-fn built_value<'v, P: Registered>(
-    environment: &Environment<'v, 'v, P>,
-    kind: BuiltIn,
-    helper: &'v HelperTemplate,
-    call: &Called<'v>,
-) -> Result<ParamValue<'v>, BoxedError>
-    ensures value { (s : State) → Yields (HasRegisteredValue (setting_in P.parts environment.now) s (built (built_in_kind kind))
-        (view_without_bodies (call_binding (call_view helper.now)) (called_view call.now))) value_found (answer_of result) }
-    ensures constant { IfOk result (λ found. is_literal_value found ≡ false) }
-{
-    let alloc = environment.inclusion.alloc;
-    let asked = call.asked_in_parentheses(helper);
-    match choose(alloc, environment.inclusion.parts.strict(), kind, asked) {
-        Ok(choice) => chosen_value(environment, choice),
-        Err(e) => Err(BoxedError::new(alloc, e)),
-    }
-}
-
-// The value that is chosen, or the text that another choice writes in parentheses. A value that lasts is borrowed.
-fn chosen_value<'v, P: Registered>(
-    environment: &Environment<'v, 'v, P>,
-    choice: Choice<'_, 'v>,
-) -> Result<ParamValue<'v>, BoxedError>
-    ensures value { IfOk result (λ found. value_found found ≡ choice_value (choice_seen choice.entry)) }
-    ensures memory { IfErr result (λ e. reason_in (error_of e) ≡ out_of_memory) }
-    ensures constant { IfOk result (λ found. is_literal_value found ≡ false) }
-{
-    match choice {
-        Choice::Value(Picked::Lasting(value)) => Ok(ParamValue::Held(value)),
-        Choice::Value(Picked::Passing(value)) => Ok(ParamValue::Computed(value.clone()?)),
-        Choice::Value(Picked::Nothing) => Ok(ParamValue::Computed(Json::Null)),
-        Choice::Count(count) => Ok(ParamValue::Computed(Json::Number(Number::from(count)))),
-        Choice::Boolean(boolean) => Ok(ParamValue::Computed(Json::Bool(boolean))),
-        Choice::Line(level, text) => {
-            environment.inclusion.parts.log(level, text.as_str());
-            Ok(ParamValue::Computed(empty_text(environment.inclusion.alloc)))
-        }
-        Choice::Body => Ok(ParamValue::Computed(empty_text(environment.inclusion.alloc))),
-        Choice::Inverse => Ok(ParamValue::Computed(empty_text(environment.inclusion.alloc))),
-        Choice::With(_) => Ok(ParamValue::Computed(empty_text(environment.inclusion.alloc))),
-        Choice::Each(_) => Ok(ParamValue::Computed(empty_text(environment.inclusion.alloc))),
-        Choice::Nothing => Ok(ParamValue::Computed(empty_text(environment.inclusion.alloc))),
-    }
-}
-
-// The value of a call that writes nothing.
-pub(crate) fn empty_text(alloc: Global) -> Json
-    ensures { view result ≡ string [] }
-{
-    Json::String(String::new(alloc))
-}
-
-/// Returns the `HelperNotFound` error for a name, or out of memory.
-#[cold]
-#[inline(never)]
-pub fn helper_not_found(alloc: Global, name: &str) -> BoxedError
-    ensures { IsRefusal (plain_refusal (helper_not_found name.now)) (error_of result) }
-{
-    match String::from_str(alloc, name) {
-        Ok(name) => BoxedError::new(alloc, RenderErrorReason::HelperNotFound(name).into()),
-        Err(AllocError) => BoxedError::OutOfMemory,
-    }
 }

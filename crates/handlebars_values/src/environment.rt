@@ -2,21 +2,19 @@
 
 use crate::null::Null;
 use handlebars_expand::ahead::Captured;
-use handlebars_expand::pieces::Location;
 use handlebars_layers::innermost::Innermost;
+use handlebars_write::location::{IterationsAround, Placement};
 use std::alloc::Global;
 
-/// What an element is rendered with: what holds within the inclusion around it, the scope frames, and how many trees may still be
-/// rendered within one another.
+/// What an element is rendered with.
 #[derive(Drop)]
 pub struct Environment<'r, 'a, P> {
+    /// What is constant within the inclusion around the element.
     pub inclusion: &'r Inclusion<'r, P>,
     /// The scope frames, and the given data.
     pub innermost: Innermost<'r, 'a>,
-    /// The fuel: how many trees may still be rendered within one another.
-    pub fuel: u64,
-    /// The location of the element that is being rendered, if pieces are emitted.
-    pub location: &'r Location<'r>,
+    /// The iterations around the element.
+    pub iterations: &'r IterationsAround<'r>,
 }
 
 /// What is constant in a run, and what is constant within an inclusion.
@@ -30,6 +28,6 @@ pub struct Inclusion<'r, P> {
     pub inclusions: u16,
     /// What is captured for partial blocks, if anything is.
     pub captured: Option<&'r Captured>,
-    /// The indentation in force, if there is one.
-    pub indent: Option<&'r str>,
+    /// The indentation in force, and the template that contains the elements.
+    pub placement: Placement<'r>,
 }

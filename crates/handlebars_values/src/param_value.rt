@@ -10,15 +10,15 @@ ghost use Rattle.handlebars_values.specs.ParamView.{argument_view, is_literal_va
 
 use crate::null::Null;
 use handlebars_base::json::value::{Json, JsonRender, PathAndJson, ScopedJson};
-use handlebars_layers::destination::Route;
+use handlebars_layers::destination::Reached;
 use handlebars_layers::made::path_of;
 use std::alloc::{AllocError, Global};
 
 /// The value of a parameter. Only a computed value is owned.
 #[derive(Drop)]
 pub enum ParamValue<'v> {
-    /// A value of the data, and the route to it.
-    Node(&'v Json, Route<'v, 'v>),
+    /// A value of the data, and how it was reached.
+    Node(Reached<'v>),
     /// A borrowed value without a path: a frame holds it, or `lookup` picked it.
     Held(&'v Json),
     /// A literal of the template.
@@ -33,8 +33,6 @@ pub enum ParamValue<'v> {
 pub struct Argument<'v> {
     written: Option<&'v str>,
     value: ParamValue<'v>,
-    // What `json` borrows if the value is missing.
-    null: Null,
 }
 
 // Not derived, so that each drop of one is a single call.
@@ -43,7 +41,6 @@ impl<'v> Drop for Argument<'v> {
         let Argument {
             written: _,
             value: _,
-            null: _,
         } = self;
     }
 }
@@ -54,7 +51,7 @@ impl<'v> ParamValue<'v> {
         ensures { option_map (λ v. view v.now) result ≡ present_in (value_found self.now) }
     {
         match self {
-            ParamValue::Node(value, _) => Some(*value),
+            ParamValue::Node(reached) => Some(reached.value),
             ParamValue::Held(value) => Some(*value),
             ParamValue::Literal(value) => Some(*value),
             ParamValue::Computed(value) => Some(value),
@@ -93,9 +90,10 @@ impl<'v> ParamValue<'v> {
         ensures constant { IfOk result (λ s. is_constant s ≡ is_literal_value self.entry) }
     {
         match self {
-            ParamValue::Node(value, route) => {
-                Ok(ScopedJson::Context(value, path_of(route, alloc)?))
-            }
+            ParamValue::Node(reached) => Ok(ScopedJson::Context(
+                reached.value,
+                path_of(reached.route(), alloc)?,
+            )),
             ParamValue::Held(value) => Ok(ScopedJson::Derived(value.clone()?)),
             ParamValue::Literal(value) => Ok(ScopedJson::Constant(value)),
             ParamValue::Computed(value) => Ok(ScopedJson::Derived(value)),
@@ -113,11 +111,7 @@ impl<'v> Argument<'v> {
           is_constant = is_literal_value value.entry;
         } }
     {
-        Argument {
-            written,
-            value,
-            null: Null::new(),
-        }
+        Argument { written, value }
     }
 
     /// Returns the text as written, if the parameter is a name or a path.
@@ -127,29 +121,35 @@ impl<'v> Argument<'v> {
         self.written
     }
 
-    /// Returns the value.
-    pub fn value(&self) -> &ParamValue<'v>
-        ensures found { value_found result.now ≡ (argument_view self.now).found }
-        ensures constant { is_literal_value result.now ≡ (argument_view self.now).is_constant }
+    /// Returns the value, or `None` if it is missing. A missing value counts as null elsewhere.
+    pub fn as_json(&self) -> Option<&Json>
+        ensures { option_map (λ v. view v.now) result ≡ present_in (argument_view self.now).found }
     {
-        &self.value
+        self.value.as_json()
     }
 
-    /// Returns the value, or null if it is missing.
-    pub fn json(&self) -> &Json
+    /// Returns the value, or this null if it is missing.
+    pub fn json<'h>(&'h self, null: &'h Null) -> &'h Json
         ensures { view result.now ≡ data_in (argument_view self.now).found }
     {
         match self.value.as_json() {
             Some(value) => value,
-            None => self.null.value(),
+            None => null.value(),
         }
     }
 
-    /// Returns whether the value is missing.
-    pub fn is_missing(&self) -> bool
-        ensures { IsTrue result ↔ ((argument_view self.now).found ≡ missing) }
+    /// Returns a copy of the value, or null if it is missing.
+    ///
+    /// # Errors
+    ///
+    /// Fails if memory runs out.
+    pub fn to_json(&self) -> Result<Json, AllocError>
+        ensures { IfOk result (λ d. view d ≡ data_in (argument_view self.now).found) }
     {
-        self.value.is_missing()
+        match self.value.as_json() {
+            Some(value) => value.clone(),
+            None => Ok(Json::Null),
+        }
     }
 
     /// Renders the value as a text. A missing value renders as the empty text.
@@ -171,11 +171,7 @@ impl<'v> Argument<'v> {
     pub fn into_path_and_json(self, alloc: Global) -> Result<PathAndJson<'v>, AllocError>
         ensures { IfOk result (λ p. path_and_data p ≡ argument_view self.entry) }
     {
-        let Argument {
-            written,
-            value,
-            null: _,
-        } = self;
+        let Argument { written, value } = self;
         let written = match written {
             Some(text) => Some(String::from_str(alloc, text)?),
             None => None,

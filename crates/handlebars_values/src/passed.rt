@@ -5,6 +5,7 @@ ghost use Rattle.std.specs.BTreeMap.{insert_entry};
 ghost use Rattle.std.specs.Cmp.Lexicographic.{slice_cmp};
 ghost use Rattle.std.specs.Cow.{cow_str_bytes};
 ghost use Rattle.std.specs.Ordering.{nat_cmp};
+ghost use Rattle.handlebars_base.specs.Bytes.{Text};
 ghost use Rattle.handlebars_base.specs.PathAndData.{path_and_data};
 ghost use Rattle.handlebars_template.specs.Tree.{call_binding, decorator_body};
 ghost use Rattle.handlebars_template.specs.TreeView.{call_view, decorator_view};
@@ -13,7 +14,7 @@ ghost use Rattle.handlebars_helpers.specs.View.{helper_view};
 ghost use Rattle.handlebars_semantics.specs.Execute.{view_with_bodies};
 ghost use Rattle.handlebars_semantics.specs.Values.{view_without_bodies};
 ghost use Rattle.handlebars_values.specs.ParamView.{argument_view};
-ghost use Rattle.handlebars_values.specs.Passed.{passed_view};
+ghost use Rattle.handlebars_values.specs.Passed.{call_of, passed_view};
 ghost use Rattle.handlebars_values.specs.View.{arguments_seen};
 
 use crate::param_value::Argument;
@@ -25,8 +26,32 @@ use std::alloc::{AllocError, Global};
 use std::borrow::CowStr;
 use std::collections::BTreeMap;
 
-/// Converts parameters into what a user-defined part is passed.
-pub(crate) fn params_passed<'v>(
+/// What a user-defined part is passed of parameters and hash arguments.
+#[derive(Drop)]
+pub(crate) struct Passed<'v> {
+    params: Vec<PathAndJson<'v>>,
+    hash: BTreeMap<&'v str, PathAndJson<'v>>,
+}
+
+/// Converts parameters and hash arguments into what a user-defined part is passed.
+///
+/// # Errors
+///
+/// Fails if memory runs out.
+pub(crate) fn arguments_passed<'v>(
+    alloc: Global,
+    params: Vec<Argument<'v>>,
+    hash: BTreeMap<&'v str, Argument<'v>>,
+) -> Result<Passed<'v>, AllocError>
+    ensures { (name : Text) → IfOk result (λ passed. passed_view name passed
+        ≡ call_of name (map argument_view params.entry.items) (arguments_seen hash.entry.entries)) }
+{
+    let params = params_passed(alloc, params)?;
+    let hash = hash_passed(alloc, hash)?;
+    Ok(Passed { params, hash })
+}
+
+fn params_passed<'v>(
     alloc: Global,
     params: Vec<Argument<'v>>,
 ) -> Result<Vec<PathAndJson<'v>>, AllocError>
@@ -39,8 +64,7 @@ pub(crate) fn params_passed<'v>(
     Ok(passed)
 }
 
-/// Converts hash arguments into what a user-defined part is passed.
-pub(crate) fn hash_passed<'v>(
+fn hash_passed<'v>(
     alloc: Global,
     hash: BTreeMap<&'v str, Argument<'v>>,
 ) -> Result<BTreeMap<&'v str, PathAndJson<'v>>, AllocError>
@@ -69,14 +93,13 @@ fn pass<'v>(
 /// Returns what a helper sees of a call of these parts, of a block or of an expression: its values and its bodies.
 pub(crate) fn helper_of<'v>(
     name: CowStr<'v>,
-    params: Vec<PathAndJson<'v>>,
-    hash: BTreeMap<&'v str, PathAndJson<'v>>,
+    passed: Passed<'v>,
     helper: &'v HelperTemplate,
     block: bool,
 ) -> Helper<'v>
-    ensures { helper_view result ≡ view_with_bodies block (call_view helper.now)
-        (passed_view (cow_str_bytes name.entry) params.entry.items hash.entry.entries) }
+    ensures { helper_view result ≡ view_with_bodies block (call_view helper.now) (passed_view (cow_str_bytes name.entry) passed.entry) }
 {
+    let Passed { params, hash } = passed;
     Helper::new(
         name,
         params,
@@ -91,13 +114,13 @@ pub(crate) fn helper_of<'v>(
 /// Returns what a helper sees of a call of these parts in parentheses, whose bodies count as absent.
 pub(crate) fn helper_in_parentheses<'v>(
     name: CowStr<'v>,
-    params: Vec<PathAndJson<'v>>,
-    hash: BTreeMap<&'v str, PathAndJson<'v>>,
+    passed: Passed<'v>,
     helper: &'v HelperTemplate,
 ) -> Helper<'v>
-    ensures { helper_view result ≡ view_without_bodies (call_binding (call_view helper.now))
-        (passed_view (cow_str_bytes name.entry) params.entry.items hash.entry.entries) }
+    ensures { helper_view result
+        ≡ view_without_bodies (call_binding (call_view helper.now)) (passed_view (cow_str_bytes name.entry) passed.entry) }
 {
+    let Passed { params, hash } = passed;
     Helper::new(
         name,
         params,
@@ -112,16 +135,16 @@ pub(crate) fn helper_in_parentheses<'v>(
 /// Returns what a decorator sees of a tag of these parts, under this indentation.
 pub(crate) fn decorator_of<'v>(
     name: CowStr<'v>,
-    params: Vec<PathAndJson<'v>>,
-    hash: BTreeMap<&'v str, PathAndJson<'v>>,
+    passed: Passed<'v>,
     tag: &'v DecoratorTemplate,
     indent: Option<CowStr<'v>>,
 ) -> Decorator<'v>
     ensures { tag_view result ≡ record {
-      call = passed_view (cow_str_bytes name.entry) params.entry.items hash.entry.entries;
+      call = passed_view (cow_str_bytes name.entry) passed.entry;
       body = decorator_body (decorator_view tag.now);
       indent = option_map cow_str_bytes indent.entry;
     } }
 {
+    let Passed { params, hash } = passed;
     Decorator::new(name, params, hash, tag.template.as_ref(), indent)
 }
