@@ -1,0 +1,3 @@
+pub mod Evaluates
+pub mod Nearest
+pub mod Unchanged
