@@ -79,12 +79,12 @@ fn decide_by_value<'v>(
     ensures given { (d : Data) → IsOf d value.entry → IfOk result (IsChoiceOf d) }
 {
     match by {
-        ByFirst::If => Ok(body_if(truth(&value, zero))),
-        ByFirst::Unless => Ok(body_if(!truth(&value, zero))),
+        ByFirst::If => Ok(body_if(truth_of(value, zero))),
+        ByFirst::Unless => Ok(body_if(!truth_of(value, zero))),
         ByFirst::Each => decide_each(alloc, strict, asked, written, value),
         ByFirst::With => decide_with(alloc, strict, asked, written, value),
-        ByFirst::Not => decide_not(alloc, strict, &value),
-        ByFirst::Len => decide_len(alloc, strict, &value),
+        ByFirst::Not => decide_not(alloc, strict, value),
+        ByFirst::Len => decide_len(alloc, strict, value),
     }
 }
 
@@ -116,11 +116,13 @@ fn decide_each<'v>(
     if !asked.has_body {
         return Ok(BuiltInChoice::Nothing);
     }
-    match has_members(&value) {
-        Some(true) => Ok(BuiltInChoice::Each(value)),
-        Some(false) => Ok(BuiltInChoice::Inverse),
-        None => inverse_or_error(alloc, strict, asked, written),
+    let Some(has_some) = has_members(&value) else {
+        return inverse_or_error(alloc, strict, asked, written);
+    };
+    if !has_some {
+        return Ok(BuiltInChoice::Inverse);
     }
+    Ok(BuiltInChoice::Each(value))
 }
 
 // Whether an array or an object has members. Any other value has none to go over.
@@ -156,11 +158,10 @@ fn decide_with<'v>(
     ensures decides { Answers choice_seen (answer_of result) (with_of strict asked.entry (written_by written.entry) (value_found value.entry)) }
     ensures given { (d : Data) → IsOf d value.entry → IfOk result (IsChoiceOf d) }
 {
-    if truth(&value, false) {
-        Ok(BuiltInChoice::With(value))
-    } else {
-        inverse_or_error(alloc, strict, asked, written)
+    if !truth(&value, false) {
+        return inverse_or_error(alloc, strict, asked, written);
     }
+    Ok(BuiltInChoice::With(value))
 }
 
 // The inverse, which strict mode requires.
@@ -217,30 +218,38 @@ pub(crate) fn truth(value: &ParamValue<'_>, zero: bool) -> bool
     }
 }
 
+// Whether a value counts as true, which is dropped.
+#[inline(always)]
+fn truth_of(value: ParamValue<'_>, zero: bool) -> bool
+    ensures { result ≡ truth zero (data_in (value_found value.entry)) }
+{
+    truth(&value, zero)
+}
+
 // In strict mode the value may not be missing.
 fn decide_not<'v>(
     alloc: Global,
     strict: bool,
-    value: &ParamValue<'_>,
+    value: ParamValue<'_>,
 ) -> Result<BuiltInChoice<'v>, BoxedError>
     ensures decides { (a : Asked) (written : Option Text) (zero : Bool) → Answers choice_seen (answer_of result)
-        (decided_by_value by.Not strict a written zero (value_found value.now)) }
+        (decided_by_value by.Not strict a written zero (value_found value.entry)) }
     ensures given { (d : Data) → IfOk result (IsChoiceOf d) }
 {
     if strict && value.is_missing() {
         return Err(absent(alloc, ByFirst::Not));
     }
-    Ok(BuiltInChoice::Boolean(!truth(value, false)))
+    Ok(BuiltInChoice::Boolean(!truth(&value, false)))
 }
 
 // In strict mode the value may not be missing.
 fn decide_len<'v>(
     alloc: Global,
     strict: bool,
-    value: &ParamValue<'_>,
+    value: ParamValue<'_>,
 ) -> Result<BuiltInChoice<'v>, BoxedError>
     ensures decides { (a : Asked) (written : Option Text) (zero : Bool) → Answers choice_seen (answer_of result)
-        (decided_by_value by.Len strict a written zero (value_found value.now)) }
+        (decided_by_value by.Len strict a written zero (value_found value.entry)) }
     ensures given { (d : Data) → IfOk result (IsChoiceOf d) }
 {
     match value.as_json() {

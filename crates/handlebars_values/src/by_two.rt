@@ -51,7 +51,7 @@ pub(crate) fn decide_by_two<'v>(
 {
     match by {
         ByTwo::Lookup => decide_lookup(alloc, strict, first, second),
-        ByTwo::Test(test) => decide_test(alloc, strict, test, null, &first, &second),
+        ByTwo::Test(test) => decide_test(alloc, strict, test, null, first, second),
     }
 }
 
@@ -173,17 +173,17 @@ fn decide_test<'v>(
     strict: bool,
     test: Test,
     null: &Null,
-    first: &Option<ParamValue<'_>>,
-    second: &Option<ParamValue<'_>>,
+    first: Option<ParamValue<'_>>,
+    second: Option<ParamValue<'_>>,
 ) -> Result<BuiltInChoice<'v>, BoxedError>
     ensures decides { Answers choice_seen (answer_of result)
-        (decided_by_two (by.Test test) strict (option_map value_found first.now) (option_map value_found second.now)) }
+        (decided_by_two (by.Test test) strict (option_map value_found first.entry) (option_map value_found second.entry)) }
     ensures given { (d : Data) → IfOk result (IsChoiceOf d) }
 {
-    let Some(left) = required(strict, null, first) else {
+    let Some(left) = required(strict, null, &first) else {
         return Err(absent_at(alloc, test.name(), 0));
     };
-    let Some(right) = required(strict, null, second) else {
+    let Some(right) = required(strict, null, &second) else {
         return Err(absent_at(alloc, test.name(), 1));
     };
     Ok(BuiltInChoice::Boolean(test.holds(left, right)))
