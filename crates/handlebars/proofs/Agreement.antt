@@ -11,7 +11,7 @@ use Rattle.handlebars_semantics.specs.Answer.{Beginning, RenderAnswers, HasOneAn
 use Rattle.handlebars_semantics.specs.Pieces.{Piece, join}
 use Rattle.handlebars_semantics.specs.Runs.{Outcome, Ended, Failed, WriteFailed, NoMemory, IsStop}
 use Rattle.handlebars_semantics.specs.State.{Setting}
-use Rattle.handlebars_render.specs.View.{Answered}
+use Rattle.handlebars_write.specs.View.{Answered}
 use Rattle.handlebars.specs.Calls.{CallResult, returned, wrote, Gave, call_error, IsSameResult, ComesOfAnswer, CallsAgree, EndsUnbroken, IsUnbroken, Writes, all_written, failed_after, writer_failed, memory_failed}
 
 same_text-merely : {A : Type 0} (x y : Text) → ∥ A ∥₁ → (A → x ≡ y) → x ≡ y

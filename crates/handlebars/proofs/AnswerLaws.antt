@@ -14,7 +14,7 @@ use Rattle.handlebars_semantics.specs.Pieces.{Piece}
 use Rattle.handlebars_semantics.specs.State.{IsLawful, Setting, State, first_state}
 use Rattle.handlebars_semantics.specs.Means.{render_tree}
 use Rattle.handlebars_semantics.specs.Runs.{Outcome, Ended, Failed, Means}
-use Rattle.handlebars_render.specs.View.{GivesString, StringFails}
+use Rattle.handlebars_write.specs.View.{GivesString, StringFails}
 use Rattle.handlebars_semantics.specs.Answer.{Beginning, a_tree, no_tree, FromSource, compiles, does_not, FromName, is_stored, is_not, not_begun, has_begun, GivesText, FailsWith, HasOneAnswer, AnswerHasOrigins, AnswerStays, NamedAnswerStays}
 use Rattle.handlebars_laws.proofs.Once.{comes_once}
 use Rattle.handlebars_laws.proofs.OtherTemplates.{same_answer_under_larger, answer_only_by_names, named_answer_only_by_names}

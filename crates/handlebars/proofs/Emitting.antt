@@ -16,8 +16,8 @@ use Rattle.handlebars_semantics.specs.State.{IsLawful, Setting, State, first_sta
 use Rattle.handlebars_semantics.specs.Emitted.{Emitted, emitted}
 use Rattle.handlebars_expand.specs.Received.{Received}
 use Rattle.handlebars_laws.proofs.RunLaws.{Runs-prefix}
-use Rattle.handlebars_render.specs.View.{Answered, RefinesSteps, MatchesOutcome, ended, refusal, write_error, no_memory, holding_of_pieces}
-use Rattle.handlebars_render.proofs.Refinement.{moment_at, memory_or}
+use Rattle.handlebars_write.specs.View.{Answered, RefinesSteps, MatchesOutcome, ended, refusal, write_error, no_memory, holding_of_pieces, moment_at}
+use Rattle.handlebars_write.proofs.Refinement.{memory_or}
 use Rattle.handlebars.specs.Calls.{BeginsWith}
 use Rattle.handlebars.specs.PieceCalls.{AreFirstOfAnswer, EmitsPieces, WereEmitted, all_emitted as emitted_all, emitted_before_error, output_failed, emitted_before_memory}
 use Rattle.handlebars.proofs.AnswerLaws.{IsOne, a_tree-injective, a_tree≢no_tree}

@@ -5,9 +5,9 @@ use Rattle.handlebars_base.specs.declared.error.render_error.RenderError.{Render
 use Rattle.handlebars_semantics.specs.State.{Setting, State}
 use Rattle.handlebars_semantics.specs.Steps.{Steps}
 use Rattle.handlebars_expand.specs.Boxed.{IsPropagated}
-use Rattle.handlebars_render.specs.Silent.{Evals}
-use Rattle.handlebars_render.specs.View.{Answered}
-use Rattle.handlebars_render.proofs.Silent.{evals-propagated}
+use Rattle.handlebars_elements.specs.Silent.{Evals}
+use Rattle.handlebars_write.specs.View.{Answered}
+use Rattle.handlebars_elements.proofs.Silent.{evals-propagated}
 
 module _ (p q : Setting) (k : Steps) (seen : Refusal → Refusal) (s mid last : State) where
   -- the error is passed on

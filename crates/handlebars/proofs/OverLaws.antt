@@ -20,7 +20,7 @@ use Rattle.handlebars_semantics.specs.Answer.{FromName, FromSource, GivesText, F
 use Rattle.handlebars_semantics.specs.Laws.{with_templates}
 use Rattle.handlebars_semantics.specs.Means.{render_tree}
 use Rattle.handlebars_semantics.specs.State.{IsLawful, Setting, State, first_state}
-use Rattle.handlebars_render.specs.View.{GivesString, StringFails}
+use Rattle.handlebars_write.specs.View.{GivesString, StringFails}
 use Rattle.handlebars.specs.Dev.{FailsRendering, HasRead, HoldsTrees, ReadsFiles, FailsWithFiles, at_a_file, after_all, FailsWithSource, not_compiled, is_compiled, files_for, stored_under}
 use Rattle.handlebars.specs.Files.{Loaded, overlaid_on, tree_in}
 use Rattle.handlebars.specs.Over.{setting_under, setting_with}

@@ -6,10 +6,10 @@ use Rattle.handlebars_base.specs.declared.error.render_error.RenderError.{Render
 use Rattle.handlebars_semantics.specs.State.{Setting}
 use Rattle.handlebars_semantics.specs.Steps.{Steps}
 use Rattle.handlebars_expand.specs.Boxed.{IsPropagated}
-use Rattle.handlebars_expand.specs.View.{state_of}
-use Rattle.handlebars_render.specs.View.{Answered, RefinesSteps, Holding}
-use Rattle.handlebars_render.proofs.Refinement.{moment_at, refines-propagated}
-use Rattle.handlebars_expand.specs.declared.context.RenderContext.{RenderContext}
+use Rattle.handlebars_context.specs.View.{state_of}
+use Rattle.handlebars_write.specs.View.{Answered, RefinesSteps, Holding, moment_at}
+use Rattle.handlebars_write.proofs.Refinement.{refines-propagated}
+use Rattle.handlebars_context.specs.declared.context.RenderContext.{RenderContext}
 
 -- the error is passed on, and then the mark is set
 pub refines-failed : (p : Setting) (k : Steps) (may : Error → Type 0) (first mid last : RenderContext)

@@ -12,8 +12,7 @@ use Rattle.handlebars_semantics.specs.Pieces.{join}
 use Rattle.handlebars_semantics.specs.State.{Setting, State}
 use Rattle.handlebars_semantics.specs.Steps.{Steps}
 use Rattle.handlebars_semantics.specs.Runs.{Outcome, Ended, Failed, Runs}
-use Rattle.handlebars_render.specs.View.{ReportsCause, boolean_text_reason, MatchesOutcome, ended, refusal, write_error, no_memory, RefinesSteps, GivesString, Holding, StringFails}
-use Rattle.handlebars_render.proofs.Refinement.{moment_at}
+use Rattle.handlebars_write.specs.View.{ReportsCause, boolean_text_reason, MatchesOutcome, ended, refusal, write_error, no_memory, RefinesSteps, GivesString, Holding, StringFails, moment_at}
 
 ended_so : {may : Error → Type 0} {before after : ℕ} {o : Outcome} {u : Unit {0}} {next : State}
     → MatchesOutcome may before after o (Ok u) next → o ≡ Ended next

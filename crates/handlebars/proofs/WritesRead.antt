@@ -18,8 +18,8 @@ use Rattle.handlebars_helpers.specs.UserAnswers.{UserAnswers, Registrations}
 use Rattle.handlebars_semantics.specs.Answer.{Beginning, FromName, FromSource, a_tree, compiles}
 use Rattle.handlebars_semantics.specs.Laws.{with_templates}
 use Rattle.handlebars_semantics.specs.State.{Setting}
-use Rattle.handlebars_render.specs.View.{Answered}
-use Rattle.handlebars_render.proofs.Refinement.{memory_or}
+use Rattle.handlebars_write.specs.View.{Answered}
+use Rattle.handlebars_write.proofs.Refinement.{memory_or}
 use Rattle.handlebars.specs.Calls.{BeginsWith, Reading, ReadingSource, written_after, failed_at_file, no_memory_to_read, compiled_so, failed_so, no_memory_to_compile}
 use Rattle.handlebars.specs.Dev.{FailsRendering, HoldsTrees, ReadsFiles, files_for, stored_under}
 use Rattle.handlebars.specs.Files.{Loaded, overlaid_on, tree_in}

@@ -18,8 +18,8 @@ use Rattle.handlebars_semantics.specs.Pieces.{Piece, join}
 use Rattle.handlebars_semantics.specs.Runs.{Outcome, Failed, IsStop, Means}
 use Rattle.handlebars_semantics.specs.State.{IsLawful, Setting, State, first_state}
 use Rattle.handlebars_laws.proofs.RunLaws.{Runs-beginning}
-use Rattle.handlebars_render.specs.View.{Answered, RefinesSteps, Holding, MatchesOutcome, ended, refusal, write_error, no_memory}
-use Rattle.handlebars_render.proofs.Refinement.{moment_at, memory_or}
+use Rattle.handlebars_write.specs.View.{Answered, RefinesSteps, Holding, MatchesOutcome, ended, refusal, write_error, no_memory, moment_at}
+use Rattle.handlebars_write.proofs.Refinement.{memory_or}
 use Rattle.handlebars.specs.Calls.{BeginsWith, IsBeginningOfAnswer, Writes, all_written, failed_after, writer_failed, memory_failed, WritesConverted, not_converted, no_memory_to_convert}
 use Rattle.handlebars.specs.Taken.{ReportsTaken}
 use Rattle.handlebars.proofs.AnswerLaws.{IsOne, a_tree-injective, a_tree≢no_tree}

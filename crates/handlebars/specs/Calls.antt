@@ -20,7 +20,7 @@ use Rattle.handlebars_semantics.specs.Answer.{Beginning, a_tree, RenderAnswers, 
 use Rattle.handlebars_semantics.specs.Pieces.{Piece, join}
 use Rattle.handlebars_semantics.specs.Runs.{Outcome, Ended, Failed, WriteFailed, WriteError, IsStop}
 use Rattle.handlebars_semantics.specs.State.{Setting, State}
-use Rattle.handlebars_render.specs.View.{Answered, ReportsWriteError}
+use Rattle.handlebars_write.specs.View.{Answered, ReportsWriteError}
 use Rattle.handlebars.specs.Dev.{ReadsFor}
 use Rattle.handlebars.specs.Files.{Loaded, Stop, ReportsStop}
 use Rattle.handlebars.specs.declared.registry.RegistryOf.{RegistryOf}

@@ -11,3 +11,4 @@ pub mod Over
 pub mod AnswerLaws
 pub mod Readers
 pub mod Markup
+pub mod Moments

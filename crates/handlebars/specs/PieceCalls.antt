@@ -13,7 +13,7 @@ use Rattle.handlebars_semantics.specs.Runs.{Outcome, Ended, Failed, WriteFailed,
 use Rattle.handlebars_semantics.specs.State.{Setting, State}
 use Rattle.handlebars_semantics.specs.Emitted.{emitted}
 use Rattle.handlebars_expand.specs.Received.{Received}
-use Rattle.handlebars_render.specs.View.{Answered, ReportsWriteError}
+use Rattle.handlebars_write.specs.View.{Answered, ReportsWriteError}
 use Rattle.handlebars.specs.Calls.{Reading, ReadingSource}
 use Rattle.handlebars.specs.Files.{Loaded}
 use Rattle.handlebars.specs.declared.registry.RegistryOf.{RegistryOf}

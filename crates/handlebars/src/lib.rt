@@ -25,6 +25,9 @@ pub use handlebars_base::json::value::{
 };
 pub use handlebars_base::output::{Output, StringOutput};
 pub use handlebars_base::support::{escape_html, html_escape, no_escape};
+pub use handlebars_context::context::RenderContext;
+pub use handlebars_expand::pieces::{Location, Origin, PieceKind, PieceOutput, TemplateReference};
+pub use handlebars_expand::trace::Trace;
 pub use handlebars_helpers::built_in::BuiltIn;
 pub use handlebars_helpers::decorators::def::DecoratorDef;
 pub use handlebars_helpers::decorators::entry::{DecoratorEntry, DecoratorEntryOf, DecoratorPart};
@@ -41,13 +44,9 @@ pub use handlebars_helpers::user::entry::{HelperEntry, HelperEntryOf, HelperPart
 pub use handlebars_helpers::user::function::{FnHelper, FnSteps, HelperFn};
 pub use handlebars_helpers::user::{HelperResult, HelperStep, HelperValue, LocalHelper};
 pub use handlebars_helpers::view::Helper;
+pub use handlebars_layers::full_path::FullPath;
 pub use handlebars_markup::fault::{MarkupFault, MarkupFaultReason};
-pub use handlebars_render::context::RenderContext;
-pub use handlebars_render::pieces::{Location, Origin, PieceKind, PieceOutput, TemplateReference};
-pub use handlebars_render::trace::Trace;
-pub use handlebars_render::write::indent_aware_write;
 pub use handlebars_scope::block::{BlockContext, BlockParamHolder, BlockParams};
-pub use handlebars_scope::context::full_path::FullPath;
 pub use handlebars_scope::context::{Context, Object};
 pub use handlebars_scope::indentation::{with_indent, write_indented};
 pub use handlebars_scope::local_vars::LocalVars;
@@ -58,6 +57,7 @@ pub use handlebars_template::template::{
 };
 pub use output::{StringWriter, WriteOutput};
 pub use registry::{Markup, Registry, Registry as Handlebars, RegistryOf};
+pub use render::indent_aware::indent_aware_write;
 pub use render::partial::expand_partial;
 pub use render::{Evaluable, Expand, Renderable};
 pub use serde_json::Value as JsonValue;

@@ -6,14 +6,15 @@ ghost use Rattle.handlebars_base.specs.RenderRefusals.{refusal_of, plain_refusal
 ghost use Rattle.handlebars_template.specs.TreeView.{tree_view, element_view};
 ghost use Rattle.handlebars_semantics.specs.Steps.{Steps};
 ghost use Rattle.handlebars_semantics.specs.Means.{render_tree, render_alone};
-ghost use Rattle.handlebars_expand.specs.View.{state_of, root_of, has_failed};
-ghost use Rattle.handlebars_render.specs.View.{first_moment};
-ghost use Rattle.handlebars_expand.specs.View.{without_partials};
-ghost use Rattle.handlebars_render.specs.View.{RefinesSteps, GivesString, StringFails};
+ghost use Rattle.handlebars_context.specs.View.{state_of, root_of, has_failed};
+ghost use Rattle.handlebars_context.specs.View.{without_partials};
+ghost use Rattle.handlebars_write.specs.View.{RefinesSteps, GivesString, StringFails};
+ghost use Rattle.handlebars.specs.Moments.{first_moment};
 ghost use Rattle.handlebars.specs.View.{setting_of};
 
 mod evaluable;
 mod expand;
+pub mod indent_aware;
 pub(crate) mod logging;
 pub mod over;
 pub mod partial;
@@ -25,14 +26,11 @@ pub use evaluable::Evaluable;
 pub use expand::Expand;
 use handlebars_base::error::RenderError;
 use handlebars_base::output::{Output, StringOutput};
+use handlebars_context::context::RenderContext;
+use handlebars_context::failure::{fail_after, ready};
+use handlebars_entry::entry::render_element_into;
 use handlebars_helpers::entries::UserParts;
-use handlebars_render::context::RenderContext;
-use handlebars_render::entry::render_element_into;
-use handlebars_render::environment::outside;
-use handlebars_render::failure::{fail_after, ready};
-use handlebars_render::pieces::Location;
 use handlebars_scope::context::Context;
-use handlebars_scope::context::bases::Bases;
 use handlebars_template::template::{Template, TemplateElement};
 use log::Log;
 use std::alloc::Global;
@@ -142,9 +140,7 @@ impl Renderable for TemplateElement {
             read: &NoTrees,
             log,
         };
-        let location = Location::first();
-        let environment = outside(alloc, parts, data, &Bases::Outside, &location);
-        match render_element_into(self, &environment, rc, out) {
+        match render_element_into(self, alloc, parts, data, rc, out) {
             Ok(()) => Ok(()),
             Err(e) => fail_after(rc, Err(e.into_error())),
         }

@@ -3,17 +3,13 @@ use Rattle.std.proofs.Common.{◌≡◌, ℕ, Bool, List, [], ◌∷◌, Option,
 use denote.Ref.{Bor}
 use Rattle.std.specs.declared.io.Error.{Error}
 use Rattle.serde_json.specs.Data.{Data}
-use Rattle.serde_json.specs.View.{view}
-use Rattle.serde_json.specs.declared.value.Value as json
 use Rattle.handlebars_base.specs.Bytes.{Text}
-use Rattle.handlebars_template.specs.Tree.{Binding, Tree, call_binding, call_body}
-use Rattle.handlebars_template.specs.TreeView.{binding_of, binding_view, block_param_view, body_view, call_view}
+use Rattle.handlebars_template.specs.Tree.{Binding, Tree, call_binding}
+use Rattle.handlebars_template.specs.TreeView.{binding_of, binding_view, block_param_view, call_view}
 use Rattle.handlebars_template.specs.declared.template.tree.BlockParam.{BlockParam}
 use Rattle.handlebars_template.specs.declared.template.tree.HelperTemplate.{HelperTemplate, out-HelperTemplate}
-use Rattle.handlebars_template.specs.declared.template.tree.Template.{Template}
-use Rattle.handlebars_template.proofs.Levels.{call_binding-view, call_body-view}
+use Rattle.handlebars_template.proofs.Levels.{call_binding-view}
 use Rattle.handlebars_scope.specs.Contexts.{data_of}
-use Rattle.handlebars_scope.specs.Resolve.{value_at}
 use Rattle.handlebars_scope.specs.Scopes.{Base, Frame, at_path, at_value, nothing_at}
 use Rattle.handlebars_helpers.specs.CallView.{HelperView}
 use Rattle.handlebars_helpers.specs.Iterations.{with_frame}
@@ -21,17 +17,14 @@ use Rattle.handlebars_semantics.specs.Execute.{change, in_scope_frame, render_br
 use Rattle.handlebars_semantics.specs.Occurrences.{Occurrence, as_part, body_at}
 use Rattle.handlebars_semantics.specs.State.{Parts, Setting, State, nearest_variables, pop_frame, push_frame}
 use Rattle.handlebars_semantics.specs.Steps.{Prog, ◌>>◌, ◌>>=◌}
-use Rattle.handlebars_layers.specs.Chain.{BlockNames, Chain, IsValue, LayerKind, NodesAreThere, frame_layer, names_from, node_layer, outer_chain, value_layer, with_layer}
-use Rattle.handlebars_layers.specs.Destination.{given_in, route_names}
-use Rattle.handlebars_layers.specs.LayerView.{chain_of, descent_names}
+use Rattle.handlebars_layers.specs.Chain.{BlockNames, Chain, frame_layer, names_from, node_layer, outer_chain, value_layer, with_layer}
+use Rattle.handlebars_layers.specs.LayerView.{chain_of}
 use Rattle.handlebars_layers.specs.Layering.{bound_names}
 use Rattle.handlebars_layers.specs.PartialsView.{partials_of}
 use Rattle.handlebars_layers.specs.ScopeFrames.{ByDepth, IsEntered, scope_frames, set_partials}
-use Rattle.handlebars_layers.specs.declared.destination.Route.{Route}
 use Rattle.handlebars_layers.specs.declared.innermost.Innermost.{Innermost}
 use Rattle.handlebars_layers.specs.declared.layer.Layer.{Layer}
 use Rattle.handlebars_layers.proofs.Entering.{enters-with}
-use Rattle.handlebars_layers.proofs.Members.{with-there}
 use Rattle.handlebars_layers.proofs.ScopeFrames.{leaves-outer}
 use Rattle.handlebars_values.specs.RunView.{run_state}
 use Rattle.handlebars_values.specs.View.{CapturedIn, Within, frames_in_run, setting_in, state_with, with_captured, within}
@@ -39,8 +32,6 @@ use Rattle.handlebars_values.specs.declared.environment.Environment as declared
 use Rattle.handlebars_values.specs.declared.run.Run.{Run}
 use Rattle.handlebars_write.specs.View.{Answered, Holding, Moment, RefinesProg, goes_on, is_over, moment_at}
 use Rattle.handlebars_write.proofs.Refinement.{refines_prog-change, refines_prog-changed, refines_prog-elsewhere, refines_prog-get, refines_prog-over, refines_prog-then}
-use Rattle.handlebars_elements.specs.Iterating.{IsRouteTo}
-use Rattle.handlebars_elements.specs.Left.{part_view}
 use Rattle.handlebars_elements.specs.View.{Captures, moment}
 
 -- the names that a block binds, as the code has them
@@ -49,12 +40,6 @@ pub binding-seen : (h : HelperTemplate) (o : Option (Bor BlockParam))
     → binding_of (option_map (λ b. binding_view b.now) o) ≡ call_binding (call_view h)
 binding-seen h None is = ap block_param_view is ∙ sym (call_binding-view h)
 binding-seen h (Some b) is = ap block_param_view is ∙ sym (call_binding-view h)
-
--- the body of a block, as the code has it
-pub body-seen : (h : HelperTemplate) (o : Option (Bor Template)) → option_map (λ b. b.now) o ≡ (out-HelperTemplate h).template
-    → part_view o ≡ call_body (call_view h)
-body-seen h None is = ap body_view is ∙ sym (call_body-view h)
-body-seen h (Some t) is = ap body_view is ∙ sym (call_body-view h)
 
 -- ---- states
 
@@ -81,42 +66,6 @@ pub unchanged-around : {w : Within} (captured : CapturedIn w) (before after : Ru
     → ((fs : List Frame) → run_state fs after ≡ run_state fs before) → state_with captured after ≡ state_with captured before
 unchanged-around {w = w} captured before after entered same =
     ap (λ fs. state_in captured fs after) entered.around ∙ ap (with_captured captured) (same (frames_in_run w.layers before))
-
--- ---- where layers are
-
-pub outer-node : (v : Data) (start : Chain) (n : ℕ) (names : List Text) (kind : LayerKind) (c layer : Chain)
-    → layer ≡ node_layer v start n names kind c → outer_chain layer ≡ Some c
-outer-node v start n names kind c layer is = ap outer_chain is
-
-pub outer-value : (v : Data) (kind : LayerKind) (c layer : Chain) → layer ≡ value_layer v kind c → outer_chain layer ≡ Some c
-outer-value v kind c layer is = ap outer_chain is
-
-pub outer-frame : (f : Frame) (c layer : Chain) → layer ≡ frame_layer f c → outer_chain layer ≡ Some c
-outer-frame f c layer is = ap outer_chain is
-
-pub lead-value : (d v : Data) (kind : LayerKind) (c layer : Chain) → NodesAreThere d c → layer ≡ value_layer v kind c
-    → NodesAreThere d layer
-lead-value d v kind c layer lead is = subst (NodesAreThere d) (sym is) lead
-
-pub lead-frame : (d : Data) (f : Frame) (c layer : Chain) → NodesAreThere d c → layer ≡ frame_layer f c → NodesAreThere d layer
-lead-frame d f c layer lead is = subst (NodesAreThere d) (sym is) lead
-
--- the layer of `with`, at a value that a route leads to
-pub lead-with : (d : Data) (node : Bor json.Value) (route : Bor Route) (bound : BlockNames) (c layer : Chain) → IsRouteTo d node route
-    → NodesAreThere d c
-    → layer ≡ node_layer (view node.now) (chain_of route.now.start.nearest.now) route.now.start.skipped (descent_names route.now.descent)
-    (with_layer bound) c
-    → NodesAreThere d layer
-lead-with d node route bound c layer leads around is =
-    subst (NodesAreThere d) (sym is)
-    (with-there d (view node.now) (chain_of route.now.start.nearest.now) c route.now.start.skipped (descent_names route.now.descent) bound
-    leads.0 (subst (λ (e : Data). NodesAreThere e (chain_of route.now.start.nearest.now)) leads.1 route.now.start.lead) around)
-
--- a route in other data, which are the same
-pub route-of : (d e : Data) (value : Bor json.Value) (r : Bor Route) → e ≡ d → IsValue (value_at e (route_names r.now)) (view value.now)
-    → given_in r.now.start ≡ e → IsRouteTo d value r
-route-of d e value r same there given =
-    (subst (λ (z : Data). IsValue (value_at z (route_names r.now)) (view value.now)) same there, given ∙ same)
 
 -- ---- the frame of `with`
 

@@ -8,18 +8,15 @@ use Rattle.serde_json.specs.Data.{Data}
 use Rattle.serde_json.specs.View.{view}
 use Rattle.serde_json.specs.declared.value.Value as json
 use Rattle.handlebars_base.specs.Bytes.{Text}
-use Rattle.handlebars_base.specs.Reasons.{out_of_memory}
-use Rattle.handlebars_base.specs.RenderRefusals.{reason_in}
 use Rattle.handlebars_base.specs.declared.error.render_error.RenderError.{RenderError}
 use Rattle.handlebars_template.specs.Tree.{Binding}
 use Rattle.handlebars_scope.specs.Scopes.{Frame, empty_frame}
-use Rattle.handlebars_helpers.specs.CallView.{HelperView}
 use Rattle.handlebars_helpers.specs.Iterations.{Iteration, iteration_frame}
-use Rattle.handlebars_semantics.specs.Execute.{in_scope_frame, run_iterations}
+use Rattle.handlebars_semantics.specs.Execute.{in_scope_frame}
 use Rattle.handlebars_semantics.specs.Occurrences.{Around, Occurrence, Template, around, as_iteration, body_at, whereabouts}
 use Rattle.handlebars_semantics.specs.State.{Setting, State, nearest_as, outer_frames, pop_frame, push_frame}
 use Rattle.handlebars_semantics.specs.Steps.{Prog}
-use Rattle.handlebars_layers.specs.Chain.{BlockNames, Chain, NodesAreThere, outer_chain}
+use Rattle.handlebars_layers.specs.Chain.{BlockNames, Chain, NodesAreThere}
 use Rattle.handlebars_layers.specs.Destination.{route_names}
 use Rattle.handlebars_layers.specs.LayerView.{chain_of, descent_names}
 use Rattle.handlebars_layers.specs.Layering.{bound_names, iteration_kind, iteration_kind_by_names}
@@ -29,12 +26,11 @@ use Rattle.handlebars_layers.specs.declared.destination.Route.{Route}
 use Rattle.handlebars_layers.proofs.Entering.{enters-iterations, enters-next-iteration}
 use Rattle.handlebars_layers.proofs.Members.{iteration-there}
 use Rattle.handlebars_layers.proofs.ScopeFrames.{leaves-outer}
-use Rattle.handlebars_write.specs.View.{Holding, Moment, RefinesProg, is_over, moment_at}
-use Rattle.handlebars_write.proofs.Iterations.{IterationsLeft}
+use Rattle.handlebars_write.specs.View.{Holding, RefinesProg, moment_at}
 use Rattle.handlebars_write.specs.LocationView.{indexes_of}
 use Rattle.handlebars_write.specs.declared.location.IterationsAround.{IterationsAround, the_lemmas}
 use Rattle.handlebars_write.specs.declared.location.IterationsAround.TheVariants as around_variants
-use Rattle.handlebars_write.proofs.Refinement.{refines-no_memory, refines_prog-elsewhere, refines_prog-in_block}
+use Rattle.handlebars_write.proofs.Refinement.{refines_prog-elsewhere, refines_prog-in_block}
 use Rattle.handlebars_elements.specs.Iterating.{IsRouteIfAny, iteration_chain}
 
 -- the names that lead to what is iterated over, if it is a value of the data
@@ -96,11 +92,6 @@ set-frame at c layer route binding bound keyed fs t frame same is has =
     ap (scope_frames at) (is ∙ ap (λ (b : BlockNames). iteration_chain t.member route (iteration_kind_by_names b t) c) same)
     ∙ frame.sets t has
 
-pub outer-iteration : (member : Data) (route : Option (Bor Route)) (bound : BlockNames) (t : Iteration) (c layer : Chain)
-    → layer ≡ iteration_chain member route (iteration_kind_by_names bound t) c → outer_chain layer ≡ Some c
-outer-iteration member None bound t c layer is = ap outer_chain is
-outer-iteration member (Some r) bound t c layer is = ap outer_chain is
-
 -- where the layer of an iteration is
 pub lead-iteration : (d : Data) (value : Bor json.Value) (route : Option (Bor Route)) (bound : BlockNames) (t : Iteration) (c layer : Chain)
     → IsRouteIfAny d value route → IsMember (view value.now) t → NodesAreThere d c
@@ -157,14 +148,6 @@ around-iteration occurrence i index known is =
 -- ---- programs
 
 module _ (p : Setting) (may : Error → Type 0) where
-  -- memory runs out before an iteration
-  pub iterations-memory : (occurrence : Occurrence) (i : ℕ) (h : HelperView) (path : Option (List Text))
-      (all rest : List Iteration) {first : Moment} {s next : State} {held : Holding} (e : RenderError) → reason_in e ≡ out_of_memory
-      → IterationsLeft p may occurrence i h path all rest first (moment_at s held)
-      → RefinesProg p (run_iterations occurrence 0 h path all) may first (Err e) (moment_at next held)
-  iterations-memory occurrence i h path all rest {next = next} {held = held} e memory left =
-      is_over (λ k. left k (Err e) (moment_at next held) (refines-no_memory p may e memory))
-
   -- the scope frame of `each`, around its iterations
   pub each-over : (m : Prog (Unit {0})) {s mid next last : State} {h new : Holding} {e : RenderError} → mid ≡ push_frame empty_frame s
       → RefinesProg p m may (moment_at mid h) (Err e) (moment_at next new)

@@ -54,16 +54,6 @@ use Rattle.handlebars_elements.proofs.TargetChoices.{viewed-name}
 
 -- ---- sections among what is left
 
--- Without a section, what may be left of a call is what is left of one.
-pub next-of-called : (d : Data) (x : Next) → x ≢ next.Section → IsNextIfCalled d x → IsNextOf d x
-next-of-called d next.Nothing other is = tt
-next-of-called d next.Body other is = tt
-next-of-called d next.Inverse other is = tt
-next-of-called d (next.With v) other is = is
-next-of-called d (next.Each v) other is = is
-next-of-called d (next.Steps steps) other is = tt
-next-of-called d next.Section other is = absurd (other refl)
-
 pub left-as-called : (occurrence : Occurrence) (block : Bool) (c : Call) (v : CallView) (old : LineState) (x : Next) → x ≢ next.Section
     → left_in_call occurrence block c v old x ≡ then_out old (left_of occurrence (view_with_bodies block c v) x)
 left-as-called occurrence block c v old next.Nothing other = refl
@@ -76,24 +66,6 @@ left-as-called occurrence block c v old next.Section other = absurd (other refl)
 
 pub no-section : (d : Data) (x : Next) → IsNextOf d x → x ≢ next.Section
 no-section d x is same = subst (λ (z : Next). IsNextOf d z) same is
-
-pub called-next : (d : Data) (x : Next) → IsNextOf d x → IsNextIfCalled d x
-called-next d next.Nothing is = tt
-called-next d next.Body is = tt
-called-next d next.Inverse is = tt
-called-next d (next.With v) is = is
-called-next d (next.Each v) is = is
-called-next d (next.Steps steps) is = tt
-called-next d next.Section is = tt
-
-pub section-none : (p : Setting) (s : State) (block : Bool) (c : Call) (d : Data) (x : Next) → IsNextOf d x → IsSectionIfLeft p s block c x
-section-none p s block c d next.Nothing is = tt
-section-none p s block c d next.Body is = tt
-section-none p s block c d next.Inverse is = tt
-section-none p s block c d (next.With v) is = tt
-section-none p s block c d (next.Each v) is = tt
-section-none p s block c d (next.Steps steps) is = tt
-section-none p s block c d next.Section is = absurd is
 
 -- ---- what leads to what is left
 
@@ -292,12 +264,6 @@ fails-after : (p : Setting) (q : Question) (a : Reply q) (f : Reply q → Prog (
 unfolding ◌>>=◌
 fails-after p q a f has is = λ k. asked (gives a) has (is k)
 
-named-same : (p : Setting) (s : State) (q : Param) (t u : Text) → as_name q ≡ Some t → HasName p s q (gives u) → t ≡ u
-named-same p s (tree.name n) t u is has = cc
-named-same p s (path r) t u is has = cc
-named-same p s (literal d) t u is has = cc
-named-same p s (subexpression e) t u is has = cc
-
 no-section-path : (p : Setting) (s : State) (v : CallView) (q : Param) (allowed : Bool) → (allowed && is_some (as_name q)) ≡ false
     → HasSectionIf allowed p s q v (without_helper v)
 no-section-path p s v q false is = refl
@@ -311,41 +277,8 @@ all-four true true c d = refl
 all-four true false c d = refl
 all-four false b c d = refl
 
-some-name : (o : Option Text) → is_some o ≡ true → (t : Text) × (o ≡ Some t)
-some-name None is = cc
-some-name (Some t) is = (t, refl)
-
 module _ (p : Setting) (s : State) (block : Bool) (c : Call) (name : Text) (named : HasName p s (call_name c) (gives name))
     (none : helper_for p.parts s block name ≡ None) where
-  -- what may be a section is one
-  pub left-section : (p.parts.sections && (block && (is_value c && is_some (as_name (call_name c))))) ≡ true
-      → IsLeftWithoutHelper p s block c (Ok next.Section)
-  left-section is =
-      let sections : p.parts.sections ≡ true = and-left p.parts.sections _ is in
-      let rest = and-right p.parts.sections _ is in
-      let in_block : block ≡ true = and-left block _ rest in
-      let values = and-right block _ rest in
-      let written = some-name (as_name (call_name c)) (and-right (is_value c) _ values) in
-      let same = named-same p s (call_name c) written.0 name written.1 named in (
-        refl,
-        in_block,
-        record {
-          name = name;
-          written = written.1 ∙ ap (λ (t : Text). Some t) same;
-          alone = and-left (is_value c) _ values;
-          allowed = sections;
-          none = subst (λ (b : Bool). helper_for p.parts s b name ≡ None) in_block none;
-        },
-      )
-    where
-      and-left : (a b : Bool) → (a && b) ≡ true → a ≡ true
-      and-left true b is = refl
-      and-left false b is = is
-
-      and-right : (a b : Bool) → (a && b) ≡ true → b ≡ true
-      and-right true b is = is
-      and-right false b is = cc
-
   called-nothing : (v : CallView) → v.name ≡ name
       → (p.parts.sections && (block && (is_value c && is_some (as_name (call_name c))))) ≡ false
       → IsAnswered p s (called_as block c v) (without_helper v)
@@ -401,15 +334,6 @@ module _ (p : Setting) (s : State) (block : Bool) (c : Call) where
   without-next d (Err e) is = tt
 
 -- ---- all calls
-
-pub none-section : (p : Setting) (s : State) (block : Bool) (c : Call) (d : Data) (r : Result Next BoxedError) → IfOk r (IsNextOf d)
-    → IfOk r (IsSectionIfLeft p s block c)
-none-section p s block c d (Ok x) is = section-none p s block c d x is
-none-section p s block c d (Err e) is = tt
-
-pub next-called : (d : Data) (r : Result Next BoxedError) → IfOk r (IsNextOf d) → IfOk r (IsNextIfCalled d)
-next-called d (Ok x) is = called-next d x is
-next-called d (Err e) is = tt
 
 ok-answer : (d : Data) (r : Result Next BoxedError) → IfOk r (IsNextOf d) → IfOk (answer_of r) (IsNextOf d)
 ok-answer d (Ok x) is = is

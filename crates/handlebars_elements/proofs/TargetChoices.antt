@@ -8,10 +8,10 @@ use Rattle.handlebars_base.specs.Reasons.{Refusal, out_of_memory}
 use Rattle.handlebars_base.specs.RenderRefusals.{reason_in, refusal_of}
 use Rattle.handlebars_base.specs.declared.error.render_error.RenderError.{RenderError}
 use Rattle.handlebars_template.specs.Tree.{Call, call_args}
-use Rattle.handlebars_template.specs.TreeView.{body_view, call_view, hash_view, params_view}
+use Rattle.handlebars_template.specs.TreeView.{body_view, call_view}
 use Rattle.handlebars_template.specs.declared.template.tree.HelperTemplate.{HelperTemplate, out-HelperTemplate}
 use Rattle.handlebars_template.specs.declared.template.tree.Template.{Template}
-use Rattle.handlebars_template.proofs.Levels.{call_body-view, call_hash-view, call_inverse-view, call_params-view}
+use Rattle.handlebars_template.proofs.Levels.{call_body-view, call_inverse-view}
 use Rattle.handlebars_helpers.specs.CallView.{CallView, HelperView, plain_value, with_constants}
 use Rattle.handlebars_helpers.specs.Callee.{Callee, built, user}
 use Rattle.handlebars_helpers.specs.Choice.{BuiltInKind, Choice, built_in_choice, lacks}
@@ -19,7 +19,6 @@ use Rattle.handlebars_semantics.specs.Asks.{only, goes_on, first_fails, ◌>>=�
 use Rattle.handlebars_semantics.specs.Execute.{view_with_bodies}
 use Rattle.handlebars_semantics.specs.Questions.{HasRegisteredChoice}
 use Rattle.handlebars_semantics.specs.State.{Setting, State}
-use Rattle.handlebars_semantics.specs.Values.{HashHasValues, HaveValues, is_viewed}
 use Rattle.handlebars_expand.specs.Bound.{dispatch}
 use Rattle.handlebars_expand.specs.Targets.{target_in}
 use Rattle.handlebars_expand.specs.View.{Yields, name_alone}
@@ -28,13 +27,6 @@ use Rattle.handlebars_expand.proofs.BoundCalls.{chooses-bound, fails-bound}
 use Rattle.handlebars_values.specs.BuiltIn.{AsksFor, HasBuiltInChoice, Passed, passing}
 use Rattle.handlebars_values.specs.declared.built_in.Asked.{Asked}
 use Rattle.handlebars_elements.specs.Chosen.{FailsFor, HasCalleeChoice, HasTargetChoice, IsViewedAs, fails_viewing}
-
--- the view of a call, by what the code has of it
-pub viewed-as : (p : Setting) (s : State) (h : HelperTemplate) (t : Text) (a : Answer CallView)
-    → is_viewed (only (gives t)) (HaveValues p s (params_view (out-HelperTemplate h).params.items))
-    (HashHasValues p s (hash_view (out-HelperTemplate h).hash.entries)) a
-    → IsViewedAs p s (call_view h) t a
-viewed-as p s h t a has = rw (call_params-view h, call_hash-view h) has
 
 module _ (p : Setting) (s : State) (block : Bool) (c : Call) (t : Text) where
   -- a view of the call has its name

@@ -28,7 +28,7 @@ abbrev pub chosen_of : Chosen → Choice
 chosen_of (BuiltIn choice) = choice_seen choice
 chosen_of (User choice) = user_choice_of choice
 
--- A value that the body is rendered at is one of these data, if it is a value of the data.
+-- A value that the body is rendered at, and that was reached in data, was reached in the given data, which are these.
 abbrev pub IsChosenOf : Data → Chosen → Type 0
 IsChosenOf d (BuiltIn choice) = IsChoiceOf d choice
 IsChosenOf d (User choice) = Unit {0}

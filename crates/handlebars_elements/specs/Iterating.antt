@@ -47,7 +47,8 @@ iteration_chain member None kind outer = value_layer member kind outer
 iteration_chain member (Some r) kind outer = node_layer member (chain_of r.now.start.nearest.now) r.now.start.skipped
     (descent_names r.now.descent) kind outer
 
--- The program was executed in a layer that the run had entered, and then the layer was left.
+-- The program was executed, beginning in the scope frames of these layers, and then the innermost of them was left. The run ends
+-- in the scope frames of the environment.
 abbrev pub RefinesInLayer : {P O T : Type 0} → (P → Parts) → ModeView O → declared.Environment P → Chain
     → Both (MutBor Run) (MutBor Run) → Both (MutBor (Sink O T)) (MutBor (Sink O T)) → Outcome → Prog (Unit {0}) → Type 0
 RefinesInLayer parts w x layers run sink outcome m =
@@ -55,7 +56,7 @@ RefinesInLayer parts w x layers run sink outcome m =
     (moment_at (with_captured captured (run_state (frames_in_run layers run.entry.now) run.entry.now)) (held_in w sink.entry.now))
     (outcome_answer outcome) (moment captured run.exit.now (held_in w sink.exit.now))
 
--- the same, but the layer is not left yet
+-- The program was executed, beginning and ending in the scope frames of these layers.
 abbrev pub RefinesInFrames : {P O T : Type 0} → (P → Parts) → ModeView O → declared.Environment P → Chain
     → Both (MutBor Run) (MutBor Run) → Both (MutBor (Sink O T)) (MutBor (Sink O T)) → Outcome → Prog (Unit {0}) → Type 0
 RefinesInFrames parts w x layers run sink outcome m =

@@ -64,7 +64,8 @@ pub record Stays {O T : Type 0} (run : Both (MutBor Run) (MutBor Run)) (sink : B
   pub unchanged : IsUnchanged run.entry.now run.exit.now
   pub same : IsSame sink.entry.now sink.exit.now
 
--- From one moment a program leads to another one, with this program left of it; or it ends early with an error.
+-- From the moment before a call the program leads to the moment after it. With `Ok` this program is then left of it; with `Err` it
+-- has ended there with the error.
 abbrev pub LeadsTo : {T : Type 0} → Setting → (Error → Type 0) → Prog (Unit {0}) → Moment → (T → Prog (Unit {0}))
     → Result T RenderError → Moment → Type 0
 LeadsTo p may m before left (Ok x) after = (next : Unit {0} → Steps) (r : Answered) (last : Moment)
@@ -86,7 +87,7 @@ abbrev pub Leads : {P O T A : Type 0} → (P → Parts) → ModeView O → decla
 Leads parts w x run sink r m left = (captured : CapturedIn (within x)) → LeadsWith parts w x run sink r captured m left
 
 -- A call by this name was viewed, and the program that calls this target leads to what is left of it in the bracket. Or viewing it
--- failed, and the output holds what it held.
+-- failed, or memory ran out, and the output holds what it held.
 pub data LeadsInCall {P O T : Type 0} (parts : P → Parts) (w : ModeView O) (x : declared.Environment P)
     (run : Both (MutBor Run) (MutBor Run)) (sink : Both (MutBor (Sink O T)) (MutBor (Sink O T))) (captured : CapturedIn (within x))
     (occurrence : Occurrence) (block : Bool) (c : Call) (name : Text) (target : Target) : Result Next BoxedError → Type 0 where

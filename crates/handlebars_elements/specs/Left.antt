@@ -74,7 +74,7 @@ pub record IsSection (p : Setting) (s : State) (c : Call) : Type 0 where
   pub allowed : p.parts.sections ≡ true
   pub none : helper_for p.parts s true name ≡ None
 
--- The values of `with` and `each` are values of these data, if they are values of the data. A section is not left.
+-- A value of `with` or `each` that was reached in data was reached in the given data, which are these. A section is not left.
 abbrev pub IsNextOf : Data → Next → Type 0
 IsNextOf d next.Nothing = Unit {0}
 IsNextOf d next.Body = Unit {0}

@@ -9,8 +9,8 @@ use Rattle.handlebars_semantics.specs.Runs.{named_as, positioned_at}
 use Rattle.handlebars_write.specs.OutcomeView.{outcome_answer}
 use Rattle.handlebars_write.specs.declared.outcome.Outcome.{Outcome}
 
--- The outcome is the error, with this position, if it had none, and then with this name, if it had none. Memory may run out in place
--- of either.
+-- The outcome is the error, with this position if it had none, and then with this name if it had none. If the name can't be
+-- copied, the outcome is out of memory instead. Of the location of out of memory nothing is said.
 pub record IsLocated (position : Option Position) (name : Option Text) (e : RenderError) (outcome : Outcome) : Type 0 where
   pub of_element : RenderError
   pub of_tree : RenderError

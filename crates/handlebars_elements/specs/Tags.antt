@@ -27,8 +27,8 @@ use Rattle.handlebars_elements.specs.declared.include.IncludingTag.{IncludingTag
 abbrev pub including_view : IncludingTag → DecoratorView
 including_view t = record { call = called_view t.call.now; body = part_view t.body; indent = option_map (λ i. i.now) t.indent }
 
--- The program was executed, if the base value of the call is this one without its hash arguments, which are these, and if the limit
--- allows this many inclusions.
+-- The program was executed, if this value is the base value of the call merged with its hash arguments, if these are bound, and
+-- if the limit allows this many inclusions.
 abbrev pub IncludesAt : {P O T : Type 0} → (P → Parts) → ModeView O → declared.Environment P → DecoratorView → ℕ → Data
     → List (Text × Data) → Both (MutBor Run) (MutBor Run) → Both (MutBor (Sink O T)) (MutBor (Sink O T)) → Outcome → Prog (Unit {0})
     → Type 0

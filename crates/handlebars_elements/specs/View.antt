@@ -37,10 +37,11 @@ pub record IsUnchanged (before after : Run) : Type 0 where
 abbrev pub around_in : {P : Type 0} → declared.Environment P → Around
 around_in x = record { template = template_seen x.inclusion.now.placement.template; iterations = indexes_of x.iterations.now }
 
--- The code knows what is around a tree, if pieces are emitted: the template that it has, or another one.
+-- The code knows what is around a tree, if pieces are emitted: the template and the iterations of this environment.
 abbrev pub KnowsAround : {P : Type 0} → Bool → declared.Environment P → TreeOccurrence → Type 0
 KnowsAround asks x at = asks ≡ true → around at ≡ around_in x
 
+-- The same, where this template is around the tree, and not that of the environment.
 abbrev pub KnowsAroundAs : {P : Type 0} → Bool → declared.Environment P → TemplateReference → TreeOccurrence → Type 0
 KnowsAroundAs asks x template at =
     asks ≡ true → around at ≡ record { template = template_seen template; iterations = indexes_of x.iterations.now }
@@ -56,7 +57,8 @@ pub record KnowsLocation {P : Type 0} (asks : Bool) (x : declared.Environment P)
 abbrev pub KnowsElement : {P : Type 0} → Bool → declared.Environment P → Occurrence → Type 0
 KnowsElement asks x occurrence = asks ≡ true → (whereabouts occurrence).around ≡ around_in x
 
--- within one more inclusion: what is captured for it, if anything is, and its indentation, in these layers
+-- what the code has within an inclusion, while this many inclusions are being rendered: what is captured for it, if anything is,
+-- its indentation, and these layers
 abbrev pub included : ℕ → Option (Bor Captured) → Option Text → Chain → Within
 included count captured indent layers = record {
   captured = option_map (λ k. k.now) captured;

@@ -2,11 +2,13 @@
 
 ghost use Rattle.std.specs.Prelude.{◌≡◌, IfOk, None, false, true};
 ghost use Rattle.std.specs.Cow.{cow_str_bytes};
+ghost use Rattle.serde_json.specs.View.{view};
 ghost use Rattle.handlebars_base.specs.Answers.{gives};
+ghost use Rattle.handlebars_base.specs.PathView.{reference_of};
 ghost use Rattle.handlebars_base.specs.Scoped.{missing, path_in};
 ghost use Rattle.handlebars_template.specs.Tree as tree;
 ghost use Rattle.handlebars_template.specs.Tree.{call_args, call_name, is_value};
-ghost use Rattle.handlebars_template.specs.TreeView.{call_view};
+ghost use Rattle.handlebars_template.specs.TreeView.{call_view, subexpression_view};
 ghost use Rattle.handlebars_scope.specs.Contexts.{data_of};
 ghost use Rattle.handlebars_semantics.specs.Execute.{view_with_bodies};
 ghost use Rattle.handlebars_semantics.specs.Means.{render_found, render_helped, render_lone};
@@ -28,9 +30,11 @@ use crate::error::missing_variable;
 use crate::execute::execute;
 use crate::found::{Written, write_path};
 use crate::next::Next;
+use handlebars_base::json::path::Path;
+use handlebars_base::json::value::Json;
 use handlebars_expand::boxed::BoxedError;
 use handlebars_expand::registered::{Registered, Target, hook, hooked};
-use handlebars_template::template::{HelperTemplate, Parameter};
+use handlebars_template::template::{HelperTemplate, Parameter, Subexpression};
 use handlebars_values::environment::Environment;
 use handlebars_values::expand::inner_value;
 use handlebars_values::param_value::ParamValue;
@@ -44,10 +48,10 @@ use handlebars_write::value::write_value;
 use handlebars_write::value_path::NoPath;
 use std::borrow::CowStr;
 
-/// Renders an expression with no parameters and no hash arguments. Most are paths with a value, for which nothing is built.
+/// Renders an expression with no parameters and no hash arguments.
 #[inline(always)]
 #[cycle(render)]
-pub fn render_alone<'v, O, T: OutputMode<O>, P: Registered>(
+pub fn render_lone_element<'v, O, T: OutputMode<O>, P: Registered>(
     helper: &'v HelperTemplate,
     environment: &'v Environment<'v, 'v, P>,
     fuel: u64,
@@ -60,39 +64,7 @@ pub fn render_alone<'v, O, T: OutputMode<O>, P: Registered>(
     ensures stays { Stays run sink }
 {
     match &helper.name {
-        Parameter::Path(path) => {
-            let name = path.raw();
-            match helper_named(environment.inclusion.parts, run, name) {
-                Some(target) => {
-                    render_target(
-                        helper,
-                        environment,
-                        fuel,
-                        at,
-                        target,
-                        CowStr::Borrowed(name),
-                        run,
-                        sink,
-                    )
-                }
-                None => match write_path(environment, path, at, run, sink) {
-                    Written::Done => Outcome::Done,
-                    Written::Missing => {
-                        render_missing(
-                            helper,
-                            environment,
-                            fuel,
-                            at,
-                            CowStr::Borrowed(name),
-                            run,
-                            sink,
-                        )
-                    }
-                    Written::OutOfMemory => Outcome::OutOfMemory,
-                    Written::Error(e) => Outcome::Error(e),
-                },
-            }
-        }
+        Parameter::Path(path) => render_path(helper, environment, fuel, at, path, run, sink),
         Parameter::Name(text) => {
             render_named(
                 helper,
@@ -105,20 +77,106 @@ pub fn render_alone<'v, O, T: OutputMode<O>, P: Registered>(
             )
         }
         Parameter::Literal(value) => {
-            render_value(
+            render_literal(helper, environment, fuel, at, value, run, sink)
+        }
+        Parameter::Subexpression(inner) => {
+            render_inner(helper, environment, fuel, at, inner, run, sink)
+        }
+    }
+}
+
+// Renders a path. Most paths lead to a value, for which nothing is built.
+#[inline(always)]
+#[cycle(render)]
+fn render_path<'v, O, T: OutputMode<O>, P: Registered>(
+    helper: &'v HelperTemplate,
+    environment: &'v Environment<'v, 'v, P>,
+    fuel: u64,
+    at: ElementLocation<'v>,
+    path: &'v Path,
+    run: &mut Run,
+    sink: &mut Sink<'_, O, T>,
+) -> Outcome
+    ensures renders { (occurrence : Occurrence) → KnowsLocation T.mode.asks environment.now at.entry occurrence → is_value (call_view helper.now) ≡ true → call_name (call_view helper.now) ≡ tree.path (reference_of path.now)
+        → Refines P.parts T.mode environment.now run sink result
+        (render_lone occurrence (call_view helper.now)) }
+    ensures stays { Stays run sink }
+{
+    let name = path.raw();
+    match helper_named(environment.inclusion.parts, run, name) {
+        Some(target) => {
+            render_target(
                 helper,
                 environment,
                 fuel,
                 at,
-                ParamValue::Literal(value),
+                target,
+                CowStr::Borrowed(name),
                 run,
                 sink,
             )
         }
-        Parameter::Subexpression(inner) => match inner_value(environment, run, inner) {
-            Ok(value) => render_value(helper, environment, fuel, at, value, run, sink),
-            Err(e) => Outcome::from(e),
+        None => match write_path(environment, path, at, run, sink) {
+            Written::Done => Outcome::Done,
+            Written::Missing => {
+                render_missing(
+                    helper,
+                    environment,
+                    fuel,
+                    at,
+                    CowStr::Borrowed(name),
+                    run,
+                    sink,
+                )
+            }
+            Written::OutOfMemory => Outcome::OutOfMemory,
+            Written::Error(e) => Outcome::Error(e),
         },
+    }
+}
+
+// Renders a literal. Neither this nor `render_inner` is inlined, so that `render_tree`, which recurses, takes no stack space for
+// their locals.
+#[inline(never)]
+#[cycle(render)]
+fn render_literal<'v, O, T: OutputMode<O>, P: Registered>(
+    helper: &'v HelperTemplate,
+    environment: &'v Environment<'v, 'v, P>,
+    fuel: u64,
+    at: ElementLocation<'v>,
+    value: &'v Json,
+    run: &mut Run,
+    sink: &mut Sink<'_, O, T>,
+) -> Outcome
+    ensures renders { (occurrence : Occurrence) → KnowsLocation T.mode.asks environment.now at.entry occurrence → is_value (call_view helper.now) ≡ true → call_name (call_view helper.now) ≡ tree.literal (view value.now)
+        → Refines P.parts T.mode environment.now run sink result
+        (render_lone occurrence (call_view helper.now)) }
+    ensures stays { Stays run sink }
+{
+    let value = ParamValue::Literal(value);
+    render_value(helper, environment, fuel, at, value, run, sink)
+}
+
+// Renders a call in parentheses.
+#[inline(never)]
+#[cycle(render)]
+fn render_inner<'v, O, T: OutputMode<O>, P: Registered>(
+    helper: &'v HelperTemplate,
+    environment: &'v Environment<'v, 'v, P>,
+    fuel: u64,
+    at: ElementLocation<'v>,
+    inner: &'v Subexpression,
+    run: &mut Run,
+    sink: &mut Sink<'_, O, T>,
+) -> Outcome
+    ensures renders { (occurrence : Occurrence) → KnowsLocation T.mode.asks environment.now at.entry occurrence → is_value (call_view helper.now) ≡ true → call_name (call_view helper.now) ≡ tree.subexpression (subexpression_view inner.now)
+        → Refines P.parts T.mode environment.now run sink result
+        (render_lone occurrence (call_view helper.now)) }
+    ensures stays { Stays run sink }
+{
+    match inner_value(environment, run, inner) {
+        Ok(value) => render_value(helper, environment, fuel, at, value, run, sink),
+        Err(e) => Outcome::from(e),
     }
 }
 
@@ -260,7 +318,8 @@ fn render_missing<'v, O, T: OutputMode<O>, P: Registered>(
     }
 }
 
-// Calls the hook for a missing value, if there is one. Returns what is left to be rendered.
+// Calls the hook for a missing value, if there is one, and returns what is left to be rendered. In strict mode it fails with
+// `MissingVariable` instead.
 #[inline(never)]
 fn settle_missing<'v, O, T: OutputMode<O>, P: Registered>(
     helper: &'v HelperTemplate,

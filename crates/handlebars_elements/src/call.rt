@@ -92,8 +92,8 @@ fn is_section(next: &Next<'_>) -> bool
 }
 
 // Calls the helper of a block or of an expression, within the bracket of a call, and returns what is left to be rendered in the
-// bracket. Of what may be a section all is left. It is not inlined: its caller recurses, and takes no stack space for what it
-// needs.
+// bracket. Of what may be a section all is left. It is not inlined, so that its caller, which recurses, takes no stack space for
+// the locals of this function.
 #[inline(never)]
 fn settle_call<'v, O, T: OutputMode<O>, P: Registered>(
     helper: &'v HelperTemplate,

@@ -6,7 +6,7 @@ ghost use Rattle.handlebars_semantics.specs.Occurrences.{Occurrence};
 ghost use Rattle.handlebars_elements.specs.Judgement.{Refines, Stays};
 ghost use Rattle.handlebars_elements.specs.View.{KnowsLocation};
 
-use crate::alone::render_alone;
+use crate::alone::render_lone_element;
 use crate::call::render_call;
 use crate::decorator::render_decorator;
 use crate::include::render_partial;
@@ -79,7 +79,7 @@ fn render_expression<'v, O, T: OutputMode<O>, P: Registered>(
     ensures stays { Stays run sink }
 {
     if helper.is_value() {
-        render_alone(helper, environment, fuel, at, run, sink)
+        render_lone_element(helper, environment, fuel, at, run, sink)
     } else {
         render_call(helper, environment, fuel, at, false, run, sink)
     }

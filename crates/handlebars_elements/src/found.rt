@@ -26,7 +26,8 @@ use handlebars_base::json::path::Path;
 use handlebars_expand::boxed::BoxedError;
 use handlebars_expand::registered::Registered;
 use handlebars_layers::destination::{Destination, FrameValue, Reached};
-use handlebars_layers::made::{json_of, path_of};
+use handlebars_layers::full_path::FullPath;
+use handlebars_layers::made::json_of;
 use handlebars_scope::line::LineState;
 use handlebars_values::environment::Environment;
 use handlebars_values::find::{look, not_an_index};
@@ -37,17 +38,17 @@ use handlebars_write::output_mode::OutputMode;
 use handlebars_write::sink::Sink;
 use handlebars_write::value::write_value;
 use handlebars_write::value_path::{NoPath, ValuePath};
-use std::alloc::{AllocError, Global};
+use std::alloc::AllocError;
 
-// The path of a value of the data: the names of the route to it.
+// The path of a value of the data, by how it was reached. Its names are made only where an output asks for them.
 #[derive(Clone, Copy)]
 struct ReachedPath<'r>(Reached<'r>);
 
 impl<'r> ValuePath for ReachedPath<'r> {
     ghost names = { λ path. Some (reached_names path.0) };
 
-    fn path(&self, alloc: Global) -> Result<Option<Vec<String>>, AllocError> {
-        Ok(Some(path_of(self.0.route(), alloc)?))
+    fn path(&self) -> Option<FullPath<'_>> {
+        Some(FullPath::reached(self.0))
     }
 }
 

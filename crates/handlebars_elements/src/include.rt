@@ -204,8 +204,8 @@ fn is_current(run: &Run, name: &str) -> bool
     }
 }
 
-// Returns the partial of a name that a decorator set. It is shared with the scope frame that has it, which may get another partial
-// under the name while this one is rendered.
+// Returns the partial of a name that a decorator set. It is shared with the run, in which another partial may be set under the name
+// while this one is rendered.
 #[inline(always)]
 fn local_partial<'p, P: Registered>(
     environment: &'p Environment<'p, 'p, P>,
@@ -312,7 +312,7 @@ fn include_tree<'v, 'c, O, T: OutputMode<O>, P: Registered>(
     )
 }
 
-// Includes a tree in its own scope frame at this value, which binds these hash arguments.
+// Includes a tree in its own scope frame, which is at this value and binds these hash arguments.
 #[cycle(render)]
 fn include_at<'v, 'c, O, T: OutputMode<O>, P: Registered>(
     tag: IncludingTag<'v, 'c>,
@@ -367,7 +367,8 @@ fn include_at<'v, 'c, O, T: OutputMode<O>, P: Registered>(
     outcome
 }
 
-// Renders a tree as one more inclusion, with this captured text, or none, under the indentation of the tag.
+// Renders a tree within an inclusion, with this captured text, or none, under the indentation of the tag. The inclusion is one of
+// `count` that are being rendered.
 #[cycle(render)]
 fn render_under<'v, 'c, O, T: OutputMode<O>, P: Registered>(
     tag: IncludingTag<'v, 'c>,

@@ -1,4 +1,4 @@
-//! What is left of a call once its helper has chosen: at most bodies that are rendered.
+//! What is left of a call once its helper has chosen: bodies, or the steps of a user-defined helper, which write texts too.
 
 use handlebars_helpers::user::HelperStep;
 use handlebars_values::param_value::ParamValue;

@@ -50,7 +50,11 @@ use handlebars_write::output_mode::OutputMode;
 use handlebars_write::sink::Sink;
 use std::alloc::AllocError;
 
-/// Renders a section, which is by a path, or by a name that parses as one.
+/// Renders a section by a path, or by a name, which is parsed as one.
+///
+/// # Errors
+///
+/// Fails with `HelperNotFound` if the name is no path, and otherwise if finding the value or rendering the section fails.
 #[inline(never)]
 #[cycle(render)]
 pub fn render_section<'v, O, T: OutputMode<O>, P: Registered>(
@@ -76,7 +80,8 @@ pub fn render_section<'v, O, T: OutputMode<O>, P: Registered>(
     }
 }
 
-// Renders a section by a name, which is parsed as a path once, however many iterations follow.
+// Renders a section by a name, which is parsed as a path once, however many iterations follow. It fails with `HelperNotFound` if
+// the name is no path.
 #[inline(never)]
 #[cycle(render)]
 fn render_section_named<'v, O, T: OutputMode<O>, P: Registered>(

@@ -1,17 +1,10 @@
 pub mod Propagated
 pub mod TraceWalks
 pub mod Asked
-pub mod Bare
-pub mod BorrowedBlocks
-pub mod Unchanged
-pub mod Evaluates
 pub mod LoneValues
-pub mod Located
 pub mod Ordered
 pub mod Values
 pub mod BoundCalls
 pub mod Changed
-pub mod Nearest
 pub mod Bases
 pub mod Tags
-pub mod Borrowed

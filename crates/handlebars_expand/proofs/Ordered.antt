@@ -9,9 +9,6 @@ use Rattle.std.specs.Map.{keys_of}
 use Rattle.std.specs.Ordering.{ordering_reverse}
 use denote.Ref.{Bor}
 use Rattle.handlebars_base.specs.Bytes.{Text}
-use Rattle.handlebars_base.specs.PathAndData.{path_and_data}
-use Rattle.handlebars_base.specs.declared.json.value.path_and_json.PathAndJson.{PathAndJson}
-use Rattle.handlebars_expand.specs.View.{hash_seen}
 
 -- the keys of a map of borrowed keys, and those of entries that own theirs
 abbrev pub borrowed : {X : Type 0} → List (Bor Text × X) → List Text
@@ -81,9 +78,3 @@ module _ {X Y : Type 0} {es : List (Bor Text × X)} {all left rest : List (Strin
         ∙ ap (λ z. z ++ k.now ∷ []) f.keys ∙ ap (λ (z : Text). owned f.done ++ z ∷ []) same
         ∙ sym (map-more (λ e. string_bytes e.0) f.done (key, q));
   }
-
--- the hash arguments after one more
-pub hash_seen-push : (es new : List (Bor Text × PathAndJson)) (k : Bor Text) (v : PathAndJson) (t : Text)
-    → new ≡ es ++ (k, v) ∷ [] → k.now ≡ t → hash_seen new ≡ hash_seen es ++ (t, path_and_data v) ∷ []
-hash_seen-push es new k v t is same = map-push (λ h. (h.0.now, path_and_data h.1)) es new (k, v) is
-    ∙ ap (λ (z : Text). hash_seen es ++ (z, path_and_data v) ∷ []) same

@@ -1,6 +1,6 @@
 -- Errors that are propagated in a box.
 use Rattle.std.proofs.Common.{◌≡◌, ◌≢◌, refl, sym, ap, ◌∙◌, subst}
-use Rattle.handlebars_base.specs.Answers.{IsRefusal, fails}
+use Rattle.handlebars_base.specs.Answers.{fails}
 use Rattle.handlebars_base.specs.Reasons.{Reason, Location, Refusal, out_of_memory}
 use Rattle.handlebars_base.specs.RenderRefusals.{reason_in, reason_of, location_of, refusal_of}
 use Rattle.handlebars_base.specs.declared.error.render_error.RenderError.{RenderError}
@@ -33,6 +33,3 @@ pub yields-propagated : {A : Type 0} (m : Asks A) (e d : RenderError) → IsProp
     → (reason_in e ≢ out_of_memory → m (fails (refusal_of e))) → reason_in d ≢ out_of_memory → m (fails (refusal_of d))
 yields-propagated m e d h is other = subst (λ (r : Refusal). m (fails r)) (sym (propagated-refusal e d h other))
     (is (λ memory. other (h.memory memory)))
-
-pub refusal-propagated : (r : Refusal) (e d : RenderError) → IsPropagated e d → IsRefusal r e → IsRefusal r d
-refusal-propagated r e d h is other = propagated-refusal e d h other ∙ is (λ memory. other (h.memory memory))

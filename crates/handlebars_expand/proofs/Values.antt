@@ -1,6 +1,6 @@
 -- How the values of calls compose.
-use Rattle.std.proofs.Common.{◌≡◌, ◌++◌, ℕ, ◌+◌, ◌<◌, ◌≤◌, List, [], ◌∷◌, length, drop, get_or, Bool, false, Option, None, Result, Ok, Err, String, Global, rules, refl, sym, ap, ◌∙◌, subst, append_assoc, append-nil}
-use Rattle.std.specs.Prelude.{IfErr, IfOk, IsErrAnd, MatchResult}
+use Rattle.std.proofs.Common.{◌≡◌, ◌++◌, ℕ, ◌+◌, ◌<◌, ◌≤◌, List, [], ◌∷◌, length, drop, get_or, Bool, false, Option, Result, Ok, Err, String, Global, rules, refl, sym, ap, ◌∙◌, subst, append_assoc, append-nil}
+use Rattle.std.specs.Prelude.{IsErrAnd, MatchResult}
 use Rattle.std.proofs.lemmas.List.{drop_more, drop_all}
 use Rattle.std.specs.String.{string_bytes}
 use Rattle.serde_json.specs.Data.{string}
@@ -10,8 +10,7 @@ use Rattle.serde_json.specs.declared.value.Value.{the_lemmas}
 use Rattle.handlebars_base.specs.Answers.{Answer, gives, fails, Answers, answer_map}
 use Rattle.handlebars_base.specs.Bytes.{Text}
 use Rattle.handlebars_base.specs.PathAndData.{PathAndData}
-use Rattle.handlebars_base.specs.Reasons.{Refusal, out_of_memory, helper_not_found}
-use Rattle.handlebars_base.specs.RenderRefusals.{plain_refusal, reason_in, refusal_of}
+use Rattle.handlebars_base.specs.Reasons.{Refusal}
 use Rattle.handlebars_base.specs.declared.error.render_error.RenderError.{RenderError}
 use Rattle.handlebars_base.specs.Scoped.{Found}
 use Rattle.handlebars_template.specs.Tree.{as_name, args, Call, call, call_args, call_binding, call_name, escaped_expression, Param, Params, param, Hash, no_hash, hash_pair}
@@ -20,11 +19,10 @@ use Rattle.handlebars_template.specs.declared.template.tree.Parameter.{Parameter
 use Rattle.handlebars_template.specs.declared.template.tree.Subexpression.{Subexpression, out-Subexpression}
 use Rattle.handlebars_template.specs.declared.template.tree.BlockParam as tree
 use Rattle.handlebars_helpers.specs.CallView.{HelperView}
-use Rattle.handlebars_helpers.specs.Callee.{Callee, Target, built}
-use Rattle.handlebars_helpers.specs.Choice.{BuiltInKind, Choice, built_in_choice}
+use Rattle.handlebars_helpers.specs.Callee.{Callee}
 use Rattle.handlebars_semantics.specs.Asks.{Asks, Then, ◌>>=◌, goes_on, first_fails}
 use Rattle.handlebars_semantics.specs.State.{Setting, State, helper_for}
-use Rattle.handlebars_semantics.specs.Values.{is_literal, as_written, choice_value, view_without_bodies, HasHelpedValue, HasRegisteredValue, HasInnerValue, HasView, HasWrittenValue, HaveValues, HashHasValues}
+use Rattle.handlebars_semantics.specs.Values.{is_literal, as_written, view_without_bodies, HasHelpedValue, HasRegisteredValue, HasInnerValue, HasView, HasWrittenValue, HaveValues, HashHasValues}
 use Rattle.handlebars_expand.specs.Boxed.{answer_of, error_of}
 use Rattle.handlebars_expand.specs.View.{Yields}
 use Rattle.handlebars_expand.specs.declared.boxed.BoxedError.{BoxedError}
@@ -68,26 +66,6 @@ yields-then seen first next (Err e) g is = λ other. goes_on g (is other)
 -- ---- calls in parentheses
 
 module _ (p : Setting) (s : State) (v : HelperView) where
-  -- the value that a built-in helper chooses, if there is memory for it
-  pub yields-built : {T : Type 0} (seen : T → Found) (k : BuiltInKind) (choice : Choice) (r : Result T BoxedError)
-      → built_in_choice p.parts.strict k v ≡ gives choice → IfOk r (λ x. seen x ≡ choice_value choice)
-      → IfErr r (λ e. reason_in (error_of e) ≡ out_of_memory)
-      → Yields (HasRegisteredValue p s (built k) v) seen (answer_of r)
-  yields-built seen k choice (Ok x) chooses same memory =
-      ap (λ (z : Found). gives z) same ∙ sym (ap (answer_map choice_value) chooses)
-  yields-built seen k choice (Err e) chooses same memory = λ other. absurd (other memory)
-
-  -- the value of what a name calls
-  pub yields-helped : {T : Type 0} (seen : T → Found) (h : Option Target) {o : Option Target} (r : Result T RenderError)
-      → o ≡ h → Yields (HasHelpedValue p s o v) seen r → Yields (HasHelpedValue p s h v) seen r
-  yields-helped seen h r is y = subst (λ (z : Option Target). Yields (HasHelpedValue p s z v) seen r) is y
-
-  pub fails-unknown : (h : Option Target) (e : RenderError) → None ≡ h
-      → refusal_of e ≡ plain_refusal (helper_not_found v.call.name) → HasHelpedValue p s h v (fails (refusal_of e))
-  fails-unknown h e is same =
-      subst (λ (z : Option Target). HasHelpedValue p s z v (fails (refusal_of e))) is
-      (ap (λ (z : Refusal). fails z) same)
-
   -- the value for an equal view and an equal callee
   pub yields-for : {T : Type 0} (seen : T → Found) (k : Callee) {j : Callee} {w : HelperView} (r : Result T RenderError)
       → j ≡ k → w ≡ v → Yields (HasRegisteredValue p s j w) seen r → Yields (HasRegisteredValue p s k v) seen r

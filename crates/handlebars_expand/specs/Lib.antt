@@ -3,10 +3,5 @@ pub mod Received
 pub mod View
 pub mod Boxed
 pub mod Targets
-pub mod Judgement
 pub mod Bound
 pub mod UserChoice
-pub mod Bare
-pub mod BlocksView
-pub mod Borrowing
-pub mod Inclusions

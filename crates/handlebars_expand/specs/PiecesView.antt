@@ -3,8 +3,9 @@ use Rattle.std.specs.Prelude.{List, [], ◌∷◌, ◌++◌, Option, option_map,
 use Rattle.handlebars_base.specs.Bytes.{Text}
 use Rattle.handlebars_base.specs.Outputs.{held_of}
 use Rattle.handlebars_template.specs.TreeView.{position_of}
-use Rattle.handlebars_scope.specs.ResolutionView.{names_in, names_on}
-use Rattle.handlebars_scope.specs.declared.context.full_path.FullPath.{FullPath}
+use Rattle.handlebars_scope.specs.ResolutionView.{names_in}
+use Rattle.handlebars_layers.specs.FullPathView.{names_on}
+use Rattle.handlebars_layers.specs.declared.full_path.FullPath.{FullPath}
 use Rattle.handlebars_semantics.specs.Occurrences.{Template, the_first, the_included, Whereabouts}
 use Rattle.handlebars_semantics.specs.Emitted.{Kind, template_text, indentation, escaped_value, raw_value, helper_boolean, user_text, Provenance, Emitted}
 use Rattle.handlebars_expand.specs.declared.pieces.PieceKind.{PieceKind}

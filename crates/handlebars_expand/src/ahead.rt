@@ -2,11 +2,12 @@
 
 ghost use Rattle.std.specs.Prelude.{◌≡◌, ◌++◌, ◌∷◌, [], IfOk, OnErr, OnOk, option_map};
 ghost use Rattle.handlebars_scope.specs.ResolutionView.{names_in};
+ghost use Rattle.handlebars_helpers.specs.View.{path_view};
 ghost use Rattle.handlebars_expand.specs.PiecesView.{ahead_plain, ahead_emitted, captured_template, captured_emitted, origin_seen, path_seen, plain_text, template_seen, emitted_by, emitted_seen};
 
-use crate::pieces::{Location, Origin, PieceKind, TemplateReference, full_path};
+use crate::pieces::{Location, Origin, PieceKind, TemplateReference};
 use handlebars_base::output::StringOutput;
-use handlebars_scope::context::full_path::FullPath;
+use handlebars_layers::full_path::FullPath;
 use handlebars_template::template::TemplateMapping;
 use std::alloc::{AllocError, Global};
 
@@ -163,5 +164,15 @@ fn copied_path(alloc: Global, path: Option<FullPath<'_>>) -> Result<Option<Vec<S
     match path {
         Some(path) => Ok(Some(path.copied(alloc)?)),
         None => Ok(None),
+    }
+}
+
+// The full path with these names, if there are any.
+fn full_path(names: Option<&Vec<String>>) -> Option<FullPath<'_>>
+    ensures { path_seen result ≡ path_view names.entry }
+{
+    match names {
+        Some(names) => Some(FullPath::of(names.as_slice())),
+        None => None,
     }
 }

@@ -1,13 +1,11 @@
 //! What is emitted with each piece of a rendering's text: its kind, and its origin.
 
-ghost use Rattle.std.specs.Prelude.{◌≡◌, [], IfErr, None, OnErr, OnOk};
+ghost use Rattle.std.specs.Prelude.{◌≡◌, IfErr, OnErr, OnOk};
 ghost use Rattle.std.specs.declared.io.Error.{Error};
-ghost use Rattle.handlebars_helpers.specs.View.{path_view};
-ghost use Rattle.handlebars_semantics.specs.Occurrences.{the_first};
-ghost use Rattle.handlebars_expand.specs.PiecesView.{kind_name, kind_seen, path_seen, location_seen, emitted_seen};
+ghost use Rattle.handlebars_expand.specs.PiecesView.{kind_name, kind_seen, emitted_seen};
 ghost use Rattle.handlebars_expand.specs.Received.{Received, IsAccepted, IsRejected};
 
-use handlebars_scope::context::full_path::FullPath;
+use handlebars_layers::full_path::FullPath;
 use handlebars_template::template::TemplateMapping;
 use std::{fmt, io};
 
@@ -70,35 +68,12 @@ pub struct Location<'p> {
     pub iterations: &'p [usize],
 }
 
-impl Location<'_> {
-    /// Returns the location at the start of a rendering: in the first template, with no element and no iteration.
-    pub fn first() -> Location<'static>
-        ensures { location_seen result ≡ record { around = record { template = the_first; iterations = [] }; position = None } }
-    {
-        Location {
-            template: TemplateReference::First,
-            position: None,
-            iterations: &[],
-        }
-    }
-}
-
 /// The origin of a piece: the element that writes it, and for a value the path by which it was reached, if it has one.
 #[derive(Clone, Copy)]
 pub struct Origin<'p> {
     pub kind: PieceKind,
     pub location: Location<'p>,
     pub path: Option<FullPath<'p>>,
-}
-
-/// Returns the full path with these names, if there are any.
-pub fn full_path(names: Option<&Vec<String>>) -> Option<FullPath<'_>>
-    ensures { path_seen result ≡ path_view names.entry }
-{
-    match names {
-        Some(names) => Some(FullPath::of(names.as_slice())),
-        None => None,
-    }
 }
 
 /// An output that receives each piece of a rendering's text, in order.

@@ -7,11 +7,9 @@ ghost use Rattle.handlebars_helpers.specs.Callee.{calls_registered};
 ghost use Rattle.handlebars_helpers.specs.DecoratorsView.{decorator_called, action_of, decorator_question_of};
 ghost use Rattle.handlebars_helpers.specs.EscapeView.{escaping_of};
 ghost use Rattle.handlebars_helpers.specs.UserView.{helper_question_of, callee_of, offer_of, steps_of, IsOneOf};
-ghost use Rattle.handlebars_semantics.specs.State.{IsLawful, Parts, helper_for, helper_named, hook};
+ghost use Rattle.handlebars_semantics.specs.State.{IsLawful, Parts, hook};
 ghost use Rattle.handlebars_expand.specs.Targets.{target_in};
-ghost use Rattle.handlebars_expand.specs.View.{state_of};
 
-use crate::context::RenderContext;
 use handlebars_base::error::RenderError;
 use handlebars_helpers::built_in::BuiltIn;
 use handlebars_helpers::decorators::view::Decorator;
@@ -112,41 +110,6 @@ pub enum Target {
     Hooked,
     /// The local helper of the call's name.
     Local,
-}
-
-/// Returns the target of a call by a name, of a block or not: the helper of the name, or else the hook.
-#[inline(always)]
-pub fn helper_for<P: Registered>(
-    parts: &P,
-    rc: &RenderContext,
-    block: bool,
-    name: &str,
-) -> Option<Target>
-    ensures { option_map (target_in block name.now) result
-        ≡ helper_for (P.parts parts.now) (state_of rc.now) block name.now }
-{
-    match helper_named(parts, rc, name) {
-        Some(target) => Some(target),
-        None => match parts.helper(hook(block)) {
-            Some(callee) => Some(hooked(callee)),
-            None => None,
-        },
-    }
-}
-
-/// Returns the helper of a name: a local one, or else a registered one.
-#[inline(always)]
-pub fn helper_named<P: Registered>(parts: &P, rc: &RenderContext, name: &str) -> Option<Target>
-    ensures { (block : Bool) → option_map (target_in block name.now) result
-        ≡ helper_named (P.parts parts.now) (state_of rc.now) name.now }
-{
-    if rc.has_local_helper(name) {
-        return Some(Target::Local);
-    }
-    match parts.helper(name) {
-        Some(callee) => Some(named(callee)),
-        None => None,
-    }
 }
 
 /// Returns the target for what is registered under a call's name.

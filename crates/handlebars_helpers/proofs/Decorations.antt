@@ -1,13 +1,14 @@
--- What `inline` does.
-use Rattle.std.proofs.Common.{◌≡◌, [], ◌∷◌, Some, codes, ap, ◌∙◌}
+-- What `inline` does, and an error that is passed on.
+use Rattle.std.proofs.Common.{◌≡◌, ◌≢◌, [], ◌∷◌, Some, Result, Ok, Err, IsErrAnd, codes, sym, subst, ap, ◌∙◌}
 use Rattle.serde_json.specs.Data.{Data, null, boolean, number, string, array, object}
-use Rattle.handlebars_base.specs.Answers.{Answer, gives, fails}
+use Rattle.handlebars_base.specs.Answers.{Answer, Answers, gives, fails}
 use Rattle.handlebars_base.specs.Bytes.{Text}
 use Rattle.handlebars_base.specs.Optional.{with_or}
 use Rattle.handlebars_base.specs.PathAndData.{PathAndData}
-use Rattle.handlebars_base.specs.Reasons.{Refusal, param_not_found_for_index}
-use Rattle.handlebars_base.specs.RenderRefusals.{plain_refusal}
+use Rattle.handlebars_base.specs.Reasons.{Refusal, out_of_memory, param_not_found_for_index}
+use Rattle.handlebars_base.specs.RenderRefusals.{plain_refusal, reason_in, refusal_of}
 use Rattle.handlebars_base.specs.Scoped.{data_in}
+use Rattle.handlebars_base.specs.declared.error.render_error.RenderError.{RenderError}
 use Rattle.handlebars_template.specs.Tree.{Tree, Body, no_body, body}
 use Rattle.handlebars_helpers.specs.CallView.{param_at}
 use Rattle.handlebars_helpers.specs.Decoration.{DecoratorView, sets_partial, by_text, by_body, inline_actions}
@@ -45,3 +46,10 @@ inline-fails v p name r first is_text lacks =
     (fails (plain_refusal (param_not_found_for_index (codes "inline") 0)))) first
     ∙ by_text-gives (data_in p.found) (λ n. by_body v.body (λ t. gives (sets_partial n ∷ []))) name is_text
     ∙ by_body-fails v.body (λ t. gives (sets_partial name ∷ [])) r lacks
+
+-- the error that a call returns is passed on unchanged
+pub answers-propagated : {T A : Type 0} (seen : T → A) (a : Answer A) (r : Result T RenderError) (e : RenderError)
+    → IsErrAnd r (λ d. d ≡ e) → (reason_in e ≢ out_of_memory → a ≡ fails (refusal_of e)) → Answers seen r a
+answers-propagated seen a (Ok x) e is h = absurd is
+answers-propagated seen a (Err d) e is h =
+    subst (λ (z : RenderError). reason_in z ≢ out_of_memory → a ≡ fails (refusal_of z)) (sym is) h

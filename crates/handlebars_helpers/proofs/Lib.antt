@@ -1,8 +1,5 @@
 mod Hash
-mod Names
-mod Iterations
 mod Sizes
-mod Values
 mod Marked
 mod Seen
 mod FirstEntries

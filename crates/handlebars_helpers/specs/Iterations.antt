@@ -1,5 +1,5 @@
 -- How `each` and `with` set up their scope frames.
-use Rattle.std.specs.Prelude.{ℕ, ◌≡◌, ◌+◌, ◌==◌, List, [], ◌∷◌, ◌++◌, Bool, Option, None, Some, codes, decimal}
+use Rattle.std.specs.Prelude.{ℕ, ◌+◌, ◌==◌, List, [], ◌∷◌, ◌++◌, Bool, Option, None, Some, codes, decimal}
 use Rattle.serde_json.specs.Data.{Data, null, boolean, number, unsigned, string, array, object, Items, no_items, item, Members, no_members, member}
 use Rattle.handlebars_base.specs.Bytes.{Text}
 use Rattle.handlebars_base.specs.Optional.{with_or}
@@ -59,15 +59,6 @@ iteration_key t = with_or t.key string (number (unsigned t.index))
 abbrev pub iteration_base : Option (List Text) → Iteration → Base
 iteration_base (Some path) t = at_path (path ++ (iteration_name t ∷ []))
 iteration_base None t = at_value t.member
-
--- the path is that of a member of what has the path above: it has one name more
-abbrev pub IsBelow : List Text → List Text → Type 0
-IsBelow above path = (name : Text) × (path ≡ above ++ (name ∷ []))
-
--- the base of the frame is a member of what has this path; without a path every frame counts
-abbrev pub IsBasedBelow : Option (List Text) → Frame → Type 0
-IsBasedBelow None f = Unit {0}
-IsBasedBelow (Some path) f = IsBelow path f.base_path
 
 -- the variables of an iteration, set in addition to those that are there: `first`, `last`, `index`, and for objects `key`
 abbrev pub with_key : Option Text → (Text → Option Data) → Text → Option Data

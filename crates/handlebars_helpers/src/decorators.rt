@@ -1,8 +1,11 @@
 //! Decorators, which change how the rest is rendered and write nothing themselves.
 
-ghost use Rattle.std.specs.Prelude.{◌∷◌, []};
+ghost use Rattle.std.specs.Prelude.{◌≡◌, ◌∷◌, [], MatchResult, None, Some, option_map};
 ghost use Rattle.serde_json.specs.View.{view};
 ghost use Rattle.handlebars_base.specs.Answers.{Answers, gives};
+ghost use Rattle.handlebars_base.specs.PathAndData.{path_and_data};
+ghost use Rattle.handlebars_base.specs.Reasons.{param_not_found_for_index};
+ghost use Rattle.handlebars_base.specs.RenderRefusals.{plain_refusal, refusal_of};
 ghost use Rattle.handlebars_template.specs.TreeView.{tree_view};
 ghost use Rattle.handlebars_helpers.specs.Decoration.{by_body, by_text, inline_actions, sets_partial};
 ghost use Rattle.handlebars_helpers.specs.DecoratorsView.{tag_view};
@@ -12,9 +15,8 @@ pub mod entry;
 pub mod function;
 pub mod view;
 
-use crate::params::there;
 use handlebars_base::error::{RenderError, RenderErrorReason};
-use handlebars_base::json::value::Json;
+use handlebars_base::json::value::{Json, PathAndJson};
 use handlebars_scope::context::Context;
 use handlebars_template::template::Template;
 use view::Decorator;
@@ -61,6 +63,23 @@ pub fn inline<'d>(decorator: &'d Decorator) -> Result<&'d str, RenderError>
     let name = text_of(there(decorator.param(0), "inline", 0)?.value())?;
     body_of(decorator)?;
     Ok(name)
+}
+
+// The parameter of a decorator at an index. Fails with `ParamNotFoundForIndex` if there is none.
+fn there<'h>(
+    param: Option<&'h PathAndJson<'h>>,
+    name: &'static str,
+    index: usize,
+) -> Result<&'h PathAndJson<'h>, RenderError>
+    ensures { MatchResult result
+        (λ p. option_map (λ x. path_and_data x.now) param.entry ≡ Some (path_and_data p.now))
+        (λ e. (option_map (λ x. path_and_data x.now) param.entry ≡ None)
+        × (refusal_of e ≡ plain_refusal (param_not_found_for_index name.now index))) }
+{
+    match param {
+        Some(param) => Ok(param),
+        None => Err(RenderErrorReason::ParamNotFoundForIndex(name, index).into()),
+    }
 }
 
 // The text of a value that is a string. Fails with `InvalidParamType` for any other value.

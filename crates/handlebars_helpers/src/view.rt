@@ -151,8 +151,8 @@ impl<'rc> Helper<'rc> {
     }
 }
 
-/// Returns the name that is bound, if exactly one is.
-pub(crate) fn single_name<'t>(binding: Option<&'t BlockParam>) -> Option<&'t str>
+// The name that is bound, if exactly one is.
+fn single_name<'t>(binding: Option<&'t BlockParam>) -> Option<&'t str>
     ensures { option_map (λ name. name.now) result
         ≡ single_name (binding_of (option_map (λ b. binding_view b.now) binding.entry)) }
 {
@@ -163,8 +163,8 @@ pub(crate) fn single_name<'t>(binding: Option<&'t BlockParam>) -> Option<&'t str
     }
 }
 
-/// Returns the names that are bound, if two are.
-pub(crate) fn both_names<'t>(binding: Option<&'t BlockParam>) -> Option<(&'t str, &'t str)>
+// The names that are bound, if two are.
+fn both_names<'t>(binding: Option<&'t BlockParam>) -> Option<(&'t str, &'t str)>
     ensures { option_map (λ names. (names.0.now, names.1.now)) result
         ≡ both_names (binding_of (option_map (λ b. binding_view b.now) binding.entry)) }
 {

@@ -7,6 +7,7 @@ pub mod LayerView
 pub mod Destination
 pub mod Sought
 pub mod Reached
+pub mod FullPathView
 pub mod Under
 pub mod Hits
 pub mod Layering

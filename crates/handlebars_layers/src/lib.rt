@@ -7,6 +7,7 @@ mod descents;
 pub mod destination;
 pub mod elsewhere;
 mod frame;
+pub mod full_path;
 pub mod innermost;
 pub mod iterations;
 pub mod laws;

@@ -1,15 +1,11 @@
 -- The digits of an index lead to its item.
-use Rattle.std.proofs.Common.{◌≡◌, ◌≢◌, ◌<◌, ◌^◌, ℕ, zero, suc, Bool, true, false, ◌&&◌, List, [], ◌∷◌, ◌++◌, Option, None, Some, if◌then◌else◌, length, get_or, nat_lt, arith, decimal, refl, sym, ap, ◌∙◌, subst}
+use Rattle.std.proofs.Common.{◌≡◌, ◌≢◌, ◌<◌, ◌^◌, ℕ, true, List, [], ◌∷◌, Some, length, get_or, nat_lt, arith, decimal, refl, ap, ◌∙◌}
 use Rattle.std.specs.Str.{all_ascii_digits}
-use Rattle.std.specs.Str.Parse.{digits_value, without_leading_plus, AllDigits}
+use Rattle.std.specs.Str.Parse.{digits_value, AllDigits}
 use Rattle.std.proofs.lemmas.Str.Parse.{tells_digits, tells_all_ascii_digits, without_leading_plus_none}
 use Rattle.std.proofs.lemmas.Fmt.{decimal_is_IsNumeral}
 use Rattle.std.proofs.lemmas.Bool.{lt-ltb}
-use Rattle.serde_json.specs.Data.{Data, array, Items}
-use Rattle.serde_json.specs.Find.{get_item}
-use Rattle.handlebars_base.specs.Answers.{gives}
-use Rattle.handlebars_base.specs.Bytes.{Text}
-use Rattle.handlebars_scope.specs.Resolve.{digits_index, index_of, item_at, member_at}
+use Rattle.handlebars_scope.specs.Resolve.{digits_index, index_of}
 
 all_digits : (ds : List ℕ) → AllDigits 10 ds → all_ascii_digits ds ≡ true
 all_digits [] h = tells_all_ascii_digits.empty

@@ -2,7 +2,6 @@ mod Variables
 mod Indexes
 pub mod Lines
 pub mod Resolutions
-pub mod Bases
 mod Prefixes
 pub mod Indents
 mod Merging

@@ -1,15 +1,11 @@
 pub mod Contexts
 pub mod Wraps
 pub mod Scopes
-pub mod Bases
 pub mod Resolve
-pub mod DataLookups
 pub mod Prefixes
 pub mod LineState
 pub mod LineView
 pub mod ScopeView
-pub mod Seeking
-pub mod Located
 pub mod ResolutionView
 pub mod Borrowing
 pub mod Indentation

@@ -11,17 +11,14 @@ ghost use Rattle.serde_json.specs.Written.{has_float};
 ghost use Rattle.handlebars_base.specs.Reasons.{nowhere, out_of_memory, serde_error};
 ghost use Rattle.handlebars_base.specs.RenderRefusals.{reason_in, location_of};
 
-pub mod bases;
-pub mod data_node;
-pub mod full_path;
-pub mod located;
+mod copied_path;
 pub mod looked_up;
 pub mod members;
 mod prefixes;
 mod range;
 pub mod reached;
 mod resolution;
-pub mod walk;
+mod walk;
 
 use crate::block::BlockContext;
 use crate::context::range::has_float;

@@ -4,10 +4,10 @@ ghost use Rattle.std.specs.Prelude.{◌≡◌, List, None, Some, false, map, opt
 ghost use Rattle.handlebars_base.specs.Shown.{escaped_if};
 ghost use Rattle.handlebars_scope.specs.Indentation.{lines_of, takes_indent};
 ghost use Rattle.handlebars_scope.specs.LineView.{line_of};
-ghost use Rattle.handlebars_scope.specs.ResolutionView.{names_in};
 ghost use Rattle.handlebars_semantics.specs.Emitted.{emitted, provenance};
 ghost use Rattle.handlebars_semantics.specs.Pieces as meaning;
 ghost use Rattle.handlebars_semantics.specs.Pieces.{Piece, indent_pieces, pieces_between, pieces_of, pieces_put};
+ghost use Rattle.handlebars_layers.specs.FullPathView.{names_on};
 ghost use Rattle.handlebars_expand.specs.PiecesView.{captured_emitted, emitted_seen, kind_seen, location_seen, origin_seen};
 ghost use Rattle.handlebars_write.specs.LocationView.{indexes_of, provenance_in, whereabouts_in};
 ghost use Rattle.handlebars_write.specs.ModeClauses.{EmitsTo, InLine, IsLineUnchanged, PutsFrom, WritesFrom, WritesTo};
@@ -25,11 +25,12 @@ use crate::write_error::write_error_outcome;
 use handlebars_base::json::value::{Json, JsonRender};
 use handlebars_base::support::escape_html;
 use handlebars_expand::ahead::Captured;
-use handlebars_expand::pieces::{Location, Origin, PieceKind, PieceOutput, full_path};
+use handlebars_expand::pieces::{Location, Origin, PieceKind, PieceOutput};
+use handlebars_layers::full_path::FullPath;
 use handlebars_scope::line::LineState;
 use std::alloc::Global;
 
-/// The mode that emits each piece with its origin. Positions, paths and lists of iterations are made only here.
+/// The mode that emits each piece with its origin. Positions and lists of iterations are made only here.
 #[derive(Drop)]
 pub struct EachPiece {}
 
@@ -123,22 +124,37 @@ fn put<O: PieceOutput, L: ValuePath>(
     if text.is_empty() {
         return Outcome::Done;
     }
-    let alloc = at.surroundings.placement.alloc;
-    let Ok(iterations) = at.surroundings.iterations.indexes(alloc) else {
-        return Outcome::OutOfMemory;
-    };
-    let Ok(names) = path.path(alloc) else {
-        return Outcome::OutOfMemory;
-    };
-    let origin = origin(at, kind, iterations.as_slice(), &names);
-    put_from(
-        alloc,
-        at.surroundings.placement.indent,
-        text,
-        &origin,
-        line,
-        sink,
-    )
+    match at
+        .surroundings
+        .iterations
+        .indexes(at.surroundings.placement.alloc)
+    {
+        Ok(iterations) => put_within(at, iterations.as_slice(), kind, text, path, line, sink),
+        Err(_) => Outcome::OutOfMemory,
+    }
+}
+
+// The same, with the indexes of the iterations around the element. The location, the indexes and the path are borrowed for one
+// lifetime, which is that of the origin.
+#[inline(always)]
+fn put_within<'p, O: PieceOutput, L: ValuePath>(
+    at: ElementLocation<'p>,
+    iterations: &'p [usize],
+    kind: PieceKind,
+    text: &str,
+    path: &'p L,
+    line: &mut LineState,
+    sink: &mut Sink<'_, O, EachPiece>,
+) -> Outcome
+    ensures puts { iterations.now ≡ indexes_of at.entry.surroundings.now.iterations.now
+        → PutsFrom (piece_mode O.received O.may_give) at.entry (kind_seen kind) (L.names path.now) text.now line sink result }
+    ensures same { IsSame sink.old sink.new }
+    ensures unchanged { IsLineUnchanged line result }
+{
+    let full_path = path.path();
+    let origin = origin(at, kind, iterations, full_path);
+    let placement = at.surroundings.placement;
+    put_from(placement.alloc, placement.indent, text, &origin, line, sink)
 }
 
 // Emits the pieces of a text that a value is rendered as. The text with entities is built if they are asked for.
@@ -189,12 +205,40 @@ fn put_piece<O: PieceOutput>(
         (record { text = text.now; provenance = provenance_in at.entry (kind_seen kind) None }) at_boolean_text sink result }
     ensures same { IsSame sink.old sink.new }
 {
-    let alloc = at.surroundings.placement.alloc;
-    let Ok(iterations) = at.surroundings.iterations.indexes(alloc) else {
-        return Outcome::OutOfMemory;
-    };
-    let origin = origin(at, kind, iterations.as_slice(), &None);
-    emit(alloc, at_boolean_text, text, &origin, sink)
+    match at
+        .surroundings
+        .iterations
+        .indexes(at.surroundings.placement.alloc)
+    {
+        Ok(iterations) => {
+            put_piece_within(at, iterations.as_slice(), kind, at_boolean_text, text, sink)
+        }
+        Err(_) => Outcome::OutOfMemory,
+    }
+}
+
+// The same, with the indexes of the iterations around the element.
+#[inline(always)]
+fn put_piece_within<'p, O: PieceOutput>(
+    at: ElementLocation<'p>,
+    iterations: &'p [usize],
+    kind: PieceKind,
+    at_boolean_text: bool,
+    text: &str,
+    sink: &mut Sink<'_, O, EachPiece>,
+) -> Outcome
+    ensures emits { iterations.now ≡ indexes_of at.entry.surroundings.now.iterations.now → EmitsTo (piece_mode O.received O.may_give)
+        (record { text = text.now; provenance = provenance_in at.entry (kind_seen kind) None }) at_boolean_text sink result }
+    ensures same { IsSame sink.old sink.new }
+{
+    let origin = origin(at, kind, iterations, None);
+    emit(
+        at.surroundings.placement.alloc,
+        at_boolean_text,
+        text,
+        &origin,
+        sink,
+    )
 }
 
 // The origin of a piece of this kind and path, with the indexes of the iterations around its element.
@@ -202,15 +246,15 @@ fn origin<'p>(
     at: ElementLocation<'p>,
     kind: PieceKind,
     iterations: &'p [usize],
-    names: &'p Option<Vec<String>>,
+    path: Option<FullPath<'p>>,
 ) -> Origin<'p>
     ensures { iterations.now ≡ indexes_of at.entry.surroundings.now.iterations.now
-        → origin_seen result ≡ provenance_in at.entry (kind_seen kind) (option_map (λ ns. names_in ns.items) names.now) }
+        → origin_seen result ≡ provenance_in at.entry (kind_seen kind) (option_map names_on path.entry) }
 {
     Origin {
         kind,
         location: location(at, iterations),
-        path: full_path(names.as_ref()),
+        path,
     }
 }
 

@@ -3,7 +3,7 @@
 ghost use Rattle.std.specs.Prelude.{◌≡◌, [], ◌∷◌, ◌++◌, decimal, map, option_map, OnErr, OnOk};
 ghost use Rattle.handlebars_base.specs.Outputs.{IsPrefix};
 ghost use Rattle.handlebars_expand.specs.PiecesView.{kind_seen, path_seen, location_seen, template_seen, emitted_seen};
-ghost use Rattle.handlebars_scope.specs.ResolutionView.{borrowed_names};
+ghost use Rattle.handlebars_scope.specs.ResolutionView.{names_in};
 ghost use Rattle.handlebars_template.specs.TreeView.{position_of};
 ghost use Rattle.hbs_origins.specs.Line.{printed_text, line_tokens, array_tokens, path_tokens, position_tokens, location_tokens, template_token, text_tokens, emitted_tokens};
 ghost use Rattle.json.specs.Token.{number, string};
@@ -180,16 +180,16 @@ fn write_path(
 {
     match path {
         Some(path) => {
-            let names = path.names(alloc)?;
+            let names = path.copied(alloc)?;
             write_listed(writer, names.as_slice())
         }
         None => writer.null(),
     }
 }
 
-fn write_listed(writer: &mut Writer, names: &[&str]) -> Result<(), AllocError>
+fn write_listed(writer: &mut Writer, names: &[String]) -> Result<(), AllocError>
     ensures ok { OnOk result
-        (writer.new.tokens ≡ writer.old.tokens ++ array_tokens (map string (borrowed_names names.now))) }
+        (writer.new.tokens ≡ writer.old.tokens ++ array_tokens (map string (names_in names.now))) }
     ensures before { writer.new.before ≡ writer.old.before }
 {
     writer.begin_array()?;
@@ -197,13 +197,13 @@ fn write_listed(writer: &mut Writer, names: &[&str]) -> Result<(), AllocError>
     writer.end_array()
 }
 
-fn write_names(writer: &mut Writer, names: &[&str]) -> Result<(), AllocError>
+fn write_names(writer: &mut Writer, names: &[String]) -> Result<(), AllocError>
     ensures ok { OnOk result
-        (writer.new.tokens ≡ writer.old.tokens ++ map string (borrowed_names names.now)) }
+        (writer.new.tokens ≡ writer.old.tokens ++ map string (names_in names.now)) }
     ensures before { writer.new.before ≡ writer.old.before }
 {
     for name in names {
-        writer.string(*name)?;
+        writer.string(name.as_str())?;
     }
     Ok(())
 }

@@ -127,18 +127,18 @@ fn add_origin(gathered: &mut Vec<u8>, first: &str, origin: &Origin<'_>) -> io::R
 }
 
 fn add_path(gathered: &mut Vec<u8>, path: FullPath<'_>) -> io::Result<()> {
-    let names = path.names(*gathered.allocator())?;
+    let names = path.copied(*gathered.allocator())?;
     add_names(gathered, names.as_slice())
 }
 
-fn add_names(gathered: &mut Vec<u8>, names: &[&str]) -> io::Result<()> {
+fn add_names(gathered: &mut Vec<u8>, names: &[String]) -> io::Result<()> {
     if names.is_empty() {
         return add_plain(gathered, " of the data");
     }
     let mut before = " of ";
     for name in names {
         add_plain(gathered, before)?;
-        add_escaped(gathered, *name)?;
+        add_escaped(gathered, name.as_str())?;
         before = ".";
     }
     Ok(())

@@ -3,15 +3,13 @@
 use crate::call::Call;
 use crate::reply::{OwnedReply, answered, held, shown, text_or_error};
 use handlebars_base::error::{RenderError, TemplateError};
-use handlebars_base::json::path::{Path, read_prefix, split_path};
+use handlebars_base::json::path::{Path, PathSeg, read_prefix, split_path};
 use handlebars_base::support::{escape_html, html_escape, no_escape};
 use handlebars_expressions::binding::split_binding;
 use handlebars_expressions::expression::{Enclosure, NameMode, split_expression};
 use handlebars_expressions::literal::split_literal;
 use handlebars_expressions::literal_value::literal_value;
-use handlebars_scope::context::bases::Bases;
-use handlebars_scope::context::looked_up::LookedUp;
-use handlebars_scope::context::walk::resolve;
+use handlebars_scope::context::Context;
 use handlebars_template::template::{Parameter, Template, TemplateOptions};
 use serde_json::Value as JsonValue;
 use std::alloc::{AllocError, Global};
@@ -89,17 +87,17 @@ fn expression(
 
 // Without any scope frame.
 fn resolved(alloc: Global, data: &JsonValue, path: &str) -> Result<String, RenderError> {
+    let data = Context::try_from(data.clone()?)?;
     let path = Path::parse(alloc, path)?;
+    match &path {
+        Path::Relative((segments, _)) => navigated(alloc, &data, segments.as_slice()),
+        Path::Local(_) => Ok(String::from_str(alloc, "None")?),
+    }
+}
+
+fn navigated(alloc: Global, data: &Context, segments: &[PathSeg]) -> Result<String, RenderError> {
     let blocks = VecDeque::new(alloc);
-    let outside = Bases::Outside;
-    let found = resolve(
-        alloc,
-        data,
-        &path,
-        &blocks,
-        &outside,
-        false,
-        &LookedUp::new(),
-    )?;
-    Ok(format!(in alloc; "{found:?}")?)
+    let found = data.navigate(alloc, segments, &blocks, false)?;
+    let value = found.as_json();
+    Ok(format!(in alloc; "{value:?}")?)
 }

@@ -42,7 +42,7 @@ pub fn outcome(alloc: Global, call: &Call) -> Result<Outcome, Stop> {
 }
 
 /// All calls, by name.
-pub static CALLS: [(&str, Call); 71] = [
+pub static CALLS: [(&str, Call); 70] = [
     ("RenderError::new", Call::OfError(errors::Call::New)),
     (
         "RenderError::strict_error",
@@ -144,7 +144,6 @@ pub static CALLS: [(&str, Call); 71] = [
     ("Context::wraps", Call::OfScope(scopes::Call::Wrap)),
     ("Context::clone", Call::OfScope(scopes::Call::CloneData)),
     ("Context::navigate", Call::OfScope(scopes::Call::Navigate)),
-    ("FullPath::names", Call::OfScope(scopes::Call::BorrowNames)),
     ("FullPath::copied", Call::OfScope(scopes::Call::CopyNames)),
     ("RenderContext::new", Call::OfContext(contexts::Call::New)),
     (

@@ -130,7 +130,7 @@ static GIVEN: TestCase = TestCase {
 // The text of the first element is written, the parameter of the next one is expanded, and the partial of the last one is
 // registered.
 const SOURCE: &str =
-    r#"{{#each a}}{{this}}{{../x}}{{/each}}{{len (lookup a (len "b"))}}{{#*inline "h"}}z{{/inline}}"#;
+    r#"{{#each a}}{{this}}{{../x}}{{/each}}{{len (lookup a (len "b") k=1)}}{{#*inline "h"}}z{{/inline}}"#;
 
 const WRITTEN_TEXT: &str = "1y2y";
 

@@ -23,7 +23,6 @@ pub enum Call {
     Wrap,
     CloneData,
     Navigate,
-    BorrowNames,
     CopyNames,
 }
 
@@ -41,7 +40,6 @@ pub fn outcome(alloc: Global, call: &Call) -> Result<Outcome, Stop> {
         Call::Wrap => wrapped(alloc),
         Call::CloneData => copied(alloc),
         Call::Navigate => navigated(alloc),
-        Call::BorrowNames => borrowed_names(alloc),
         Call::CopyNames => copied_names(alloc),
     }
 }
@@ -219,14 +217,6 @@ fn of_path(alloc: Global, segments: &[PathSeg]) -> Result<Outcome, Stop> {
     let data = data_of(alloc, DATA)?;
     let blocks = VecDeque::new(alloc);
     Ok(of_found(data.navigate(alloc, segments, &blocks, false)))
-}
-
-fn borrowed_names(alloc: Global) -> Result<Outcome, Stop> {
-    let path = path_of(alloc)?;
-    match FullPath::of(path.as_slice()).names(alloc) {
-        Ok(names) => Ok(Outcome::answer_if(names.len() == 1)),
-        Err(AllocError) => Ok(Outcome::OutOfMemory),
-    }
 }
 
 fn copied_names(alloc: Global) -> Result<Outcome, Stop> {

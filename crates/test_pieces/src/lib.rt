@@ -5,7 +5,7 @@ ghost use Rattle.std.specs.Prelude.{◌≡◌};
 
 use handlebars_expand::pieces::{Origin, PieceKind, PieceOutput, TemplateReference};
 use handlebars_expand::trace::Trace;
-use handlebars_scope::context::full_path::FullPath;
+use handlebars_layers::full_path::FullPath;
 use handlebars_template::template::TemplateMapping;
 use std::alloc::{AllocError, Global};
 use std::io::ErrorKind;

@@ -10,12 +10,10 @@ ghost use Rattle.handlebars.specs.PieceCalls.{EmitsPieces};
 use crate::registry::RegistryOf;
 use crate::render::logging::Logging;
 use handlebars_base::error::RenderError;
+use handlebars_entry::entry::render_pieces_into;
+use handlebars_expand::pieces::PieceOutput;
 use handlebars_helpers::entries::UserParts;
-use handlebars_render::entry::render_pieces_into;
-use handlebars_render::environment::outside;
-use handlebars_render::pieces::{Location, PieceOutput};
 use handlebars_scope::context::Context;
-use handlebars_scope::context::bases::Bases;
 use handlebars_template::template::Template;
 use log::Log;
 use std::collections::BTreeMap;
@@ -40,9 +38,7 @@ pub(crate) fn emit_template<E: UserParts, L: Log, O: PieceOutput>(
         read,
         log,
     };
-    let location = Location::first();
-    let environment = outside(registry.alloc, parts, ctx, &Bases::Outside, &location);
-    match render_pieces_into(template, &environment, &mut rc, out) {
+    match render_pieces_into(template, registry.alloc, parts, ctx, &mut rc, out) {
         Ok(()) => Ok(()),
         Err(e) => Err(e.into_error()),
     }

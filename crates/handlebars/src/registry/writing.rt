@@ -6,7 +6,8 @@ ghost use Rattle.handlebars_scope.specs.Contexts.{data_of};
 ghost use Rattle.handlebars_semantics.specs.Means.{render_tree};
 ghost use Rattle.handlebars_base.specs.declared.error.render_error.RenderError as declared;
 ghost use Rattle.handlebars_expand.specs.Boxed.{error_of};
-ghost use Rattle.handlebars_render.specs.View.{RefinesSteps, first_moment};
+ghost use Rattle.handlebars_write.specs.View.{RefinesSteps};
+ghost use Rattle.handlebars.specs.Moments.{first_moment};
 ghost use Rattle.handlebars.specs.Calls.{BeginsWith, Writes, answer_by};
 ghost use Rattle.handlebars.specs.Files.{tree_in};
 ghost use Rattle.handlebars.specs.Over.{setting_with};
@@ -18,14 +19,11 @@ use crate::registry::RegistryOf;
 use crate::render::logging::Logging;
 use handlebars_base::error::RenderError;
 use handlebars_base::output::Output;
+use handlebars_context::context::RenderContext;
+use handlebars_entry::entry::render_into;
+use handlebars_expand::boxed::BoxedError;
 use handlebars_helpers::entries::UserParts;
-use handlebars_render::boxed::BoxedError;
-use handlebars_render::context::RenderContext;
-use handlebars_render::entry::render_into;
-use handlebars_render::environment::outside;
-use handlebars_render::pieces::Location;
 use handlebars_scope::context::Context;
-use handlebars_scope::context::bases::Bases;
 use handlebars_template::template::Template;
 use log::Log;
 use std::collections::BTreeMap;
@@ -146,9 +144,7 @@ fn render_to<E: UserParts, L: Log, O: Output, X: PlainError>(
         read,
         log,
     };
-    let location = Location::first();
-    let environment = outside(registry.alloc, parts, ctx, &Bases::Outside, &location);
-    match render_into(template, &environment, rc, out) {
+    match render_into(template, registry.alloc, parts, ctx, rc, out) {
         Ok(()) => Ok(()),
         Err(error) => Err(X::of(error)),
     }

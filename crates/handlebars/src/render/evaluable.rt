@@ -7,21 +7,18 @@ ghost use Rattle.handlebars_template.specs.Tree.{tree_name};
 ghost use Rattle.handlebars_template.specs.TreeView.{tree_view, element_view};
 ghost use Rattle.handlebars_semantics.specs.Evaluation.{eval_alone, eval_tree, renamed};
 ghost use Rattle.handlebars_semantics.specs.Steps.{Steps};
-ghost use Rattle.handlebars_render.specs.Silent.{Evals};
-ghost use Rattle.handlebars_expand.specs.View.{state_of, root_of, has_failed, without_partials};
+ghost use Rattle.handlebars_context.specs.View.{state_of, root_of, has_failed, without_partials};
+ghost use Rattle.handlebars_elements.specs.Silent.{Evals};
 ghost use Rattle.handlebars.specs.View.{setting_of};
 
 use crate::registry::RegistryOf;
 use crate::render::logging::{Logging, NoTrees};
 use handlebars_base::error::RenderError;
+use handlebars_context::context::RenderContext;
+use handlebars_context::failure::{fail_after, ready};
+use handlebars_entry::entry::{evaluate_element, evaluate_tree};
 use handlebars_helpers::entries::UserParts;
-use handlebars_render::context::RenderContext;
-use handlebars_render::environment::outside;
-use handlebars_render::evaluate::{eval_element, eval_tree};
-use handlebars_render::failure::{fail_after, ready};
-use handlebars_render::pieces::Location;
 use handlebars_scope::context::Context;
-use handlebars_scope::context::bases::Bases;
 use handlebars_template::template::{Template, TemplateElement};
 use log::Log;
 use std::alloc::Global;
@@ -81,9 +78,7 @@ impl Evaluable for Template {
             read: &NoTrees,
             log,
         };
-        let location = Location::first();
-        let environment = outside(alloc, parts, data, &Bases::Outside, &location);
-        match eval_tree(self, &environment, rc) {
+        match evaluate_tree(self, alloc, parts, data, rc) {
             Ok(()) => Ok(()),
             Err(e) => fail_after(rc, Err(e.into_error())),
         }
@@ -111,9 +106,7 @@ impl Evaluable for TemplateElement {
             read: &NoTrees,
             log,
         };
-        let location = Location::first();
-        let environment = outside(alloc, parts, data, &Bases::Outside, &location);
-        match eval_element(self, &environment, rc) {
+        match evaluate_element(self, alloc, parts, data, rc) {
             Ok(()) => Ok(()),
             Err(e) => fail_after(rc, Err(e.into_error())),
         }

@@ -8,21 +8,19 @@ ghost use Rattle.handlebars_base.specs.RenderRefusals.{refusal_of, plain_refusal
 ghost use Rattle.handlebars_template.specs.Tree.{Param};
 ghost use Rattle.handlebars_template.specs.TreeView.{param_view};
 ghost use Rattle.handlebars_semantics.specs.Values.{HasName, HasWrittenValue};
-ghost use Rattle.handlebars_expand.specs.View.{state_of, root_of, has_failed, Yields};
+ghost use Rattle.handlebars_context.specs.View.{state_of, root_of, has_failed};
+ghost use Rattle.handlebars_expand.specs.View.{Yields};
 ghost use Rattle.handlebars.specs.View.{setting_of};
 
 use crate::registry::RegistryOf;
 use crate::render::logging::{Logging, NoTrees};
 use handlebars_base::error::RenderError;
 use handlebars_base::json::value::PathAndJson;
+use handlebars_context::context::RenderContext;
+use handlebars_context::failure::{fail_after, ready};
+use handlebars_entry::expand;
 use handlebars_helpers::entries::UserParts;
-use handlebars_render::context::RenderContext;
-use handlebars_render::environment::outside;
-use handlebars_render::failure::{fail_after, ready};
-use handlebars_render::pieces::Location;
-use handlebars_render::value;
 use handlebars_scope::context::Context;
-use handlebars_scope::context::bases::Bases;
 use handlebars_template::template::Parameter;
 use log::Log;
 use std::alloc::Global;
@@ -91,11 +89,7 @@ impl Expand for Parameter {
             read: &NoTrees,
             log,
         };
-        match value::expand(
-            &outside(alloc, parts, data, &Bases::Outside, &Location::first()),
-            rc,
-            self,
-        ) {
+        match expand::expand(self, alloc, parts, data, rc) {
             Ok(value) => fail_after(rc, Ok(value)),
             Err(e) => fail_after(rc, Err(e.into_error())),
         }
@@ -115,11 +109,7 @@ impl Expand for Parameter {
             read: &NoTrees,
             log,
         };
-        match value::expand_as_name(
-            &outside(alloc, parts, data, &Bases::Outside, &Location::first()),
-            rc,
-            self,
-        ) {
+        match expand::expand_as_name(self, alloc, parts, data, rc) {
             Ok(name) => fail_after(rc, Ok(name)),
             Err(e) => fail_after(rc, Err(e.into_error())),
         }

@@ -9,13 +9,13 @@ ghost use Rattle.handlebars.specs.Over.{parts_over};
 
 use crate::registry::RegistryOf;
 use handlebars_base::error::RenderError;
+use handlebars_expand::registered::Registered;
 use handlebars_helpers::decorators::view::Decorator;
 use handlebars_helpers::decorators::{DecoratorKind, DecoratorResult};
 use handlebars_helpers::entries::UserParts;
 use handlebars_helpers::escape::Escaping;
 use handlebars_helpers::user::{Callee, HelperResult, HelperValue};
 use handlebars_helpers::view::Helper;
-use handlebars_render::registered::Registered;
 use handlebars_scope::context::Context;
 use handlebars_template::template::Template;
 use log::{Level, Log, log};

@@ -6,24 +6,21 @@ ghost use Rattle.handlebars_base.specs.RenderRefusals.{refusal_of, plain_refusal
 ghost use Rattle.handlebars_template.specs.TreeView.{tree_view};
 ghost use Rattle.handlebars_scope.specs.Contexts.{data_of};
 ghost use Rattle.handlebars_semantics.specs.Means.{render_tree};
-ghost use Rattle.handlebars_expand.specs.View.{state_of, root_of, has_failed};
-ghost use Rattle.handlebars_render.specs.View.{first_moment};
-ghost use Rattle.handlebars_expand.specs.View.{without_partials};
-ghost use Rattle.handlebars_render.specs.View.{RefinesSteps, GivesString, StringFails};
+ghost use Rattle.handlebars_context.specs.View.{state_of, root_of, has_failed};
+ghost use Rattle.handlebars_context.specs.View.{without_partials};
+ghost use Rattle.handlebars_write.specs.View.{RefinesSteps, GivesString, StringFails};
+ghost use Rattle.handlebars.specs.Moments.{first_moment};
 ghost use Rattle.handlebars.specs.Over.{setting_with};
 
 use crate::registry::RegistryOf;
 use crate::render::logging::{Logging, Trees};
 use handlebars_base::error::RenderError;
 use handlebars_base::output::{Output, StringOutput};
+use handlebars_context::context::RenderContext;
+use handlebars_context::failure::{fail_after, ready};
+use handlebars_entry::entry::render_into;
 use handlebars_helpers::entries::UserParts;
-use handlebars_render::context::RenderContext;
-use handlebars_render::entry::render_into;
-use handlebars_render::environment::outside;
-use handlebars_render::failure::{fail_after, ready};
-use handlebars_render::pieces::Location;
 use handlebars_scope::context::Context;
-use handlebars_scope::context::bases::Bases;
 use handlebars_template::template::Template;
 use log::Log;
 use std::alloc::Global;
@@ -59,9 +56,7 @@ pub fn render_over<E: UserParts, T: Trees, L: Log, O: Output>(
         read,
         log,
     };
-    let location = Location::first();
-    let environment = outside(alloc, parts, data, &Bases::Outside, &location);
-    match render_into(template, &environment, rc, out) {
+    match render_into(template, alloc, parts, data, rc, out) {
         Ok(()) => Ok(()),
         Err(e) => fail_after(rc, Err(e.into_error())),
     }

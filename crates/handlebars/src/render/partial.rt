@@ -7,24 +7,22 @@ ghost use Rattle.handlebars_helpers.specs.DecoratorsView.{tag_view};
 ghost use Rattle.handlebars_semantics.specs.Including.{include};
 ghost use Rattle.handlebars_semantics.specs.Occurrences.{Occurrence};
 ghost use Rattle.handlebars_semantics.specs.Steps.{run};
-ghost use Rattle.handlebars_expand.specs.View.{state_of, root_of, has_failed};
-ghost use Rattle.handlebars_expand.specs.View.{without_partials};
-ghost use Rattle.handlebars_render.specs.View.{first_moment, RefinesSteps};
+ghost use Rattle.handlebars_context.specs.View.{state_of, root_of, has_failed};
+ghost use Rattle.handlebars_context.specs.View.{without_partials};
+ghost use Rattle.handlebars_write.specs.View.{RefinesSteps};
+ghost use Rattle.handlebars.specs.Moments.{first_moment};
 ghost use Rattle.handlebars.specs.View.{setting_of};
 
 use crate::registry::RegistryOf;
 use crate::render::logging::{Logging, NoTrees};
 use handlebars_base::error::RenderError;
 use handlebars_base::output::Output;
+use handlebars_context::context::RenderContext;
+use handlebars_context::failure::{fail_after, ready};
+use handlebars_entry::entry::include_into;
 use handlebars_helpers::decorators::view::Decorator;
 use handlebars_helpers::entries::UserParts;
-use handlebars_render::context::RenderContext;
-use handlebars_render::entry::include_into;
-use handlebars_render::environment::outside;
-use handlebars_render::failure::{fail_after, ready};
-use handlebars_render::pieces::Location;
 use handlebars_scope::context::Context;
-use handlebars_scope::context::bases::Bases;
 use log::Log;
 use std::alloc::Global;
 
@@ -62,9 +60,7 @@ pub fn expand_partial<E: UserParts, L: Log, O: Output>(
         read: &NoTrees,
         log,
     };
-    let location = Location::first();
-    let environment = outside(alloc, parts, data, &Bases::Outside, &location);
-    match include_into(d, &environment, rc, out) {
+    match include_into(d, alloc, parts, data, rc, out) {
         Ok(()) => Ok(()),
         Err(e) => fail_after(rc, Err(e.into_error())),
     }

@@ -1,7 +1,12 @@
 //! What renderings take from a context and put back, and callers may not. These are functions and not methods, so that
 //! `handlebars`, which re-exports the type, doesn't re-export them.
 
-ghost use Rattle.std.specs.Prelude.{◌≡◌};
+ghost use Rattle.std.specs.Prelude.{◌≡◌, IfOk, false};
+ghost use Rattle.handlebars_base.specs.Answers.{Answers};
+ghost use Rattle.handlebars_base.specs.PathView.{reference_of};
+ghost use Rattle.handlebars_base.specs.Scoped.{found_of, is_constant};
+ghost use Rattle.handlebars_scope.specs.Contexts.{data_of};
+ghost use Rattle.handlebars_scope.specs.Resolve.{resolve};
 ghost use Rattle.handlebars_scope.specs.ScopeView.{frames_of, partials_named};
 ghost use Rattle.handlebars_semantics.specs.State.{nearest_as};
 ghost use Rattle.handlebars_layers.specs.ScopeFrames.{set_partials};
@@ -10,8 +15,12 @@ ghost use Rattle.handlebars_context.specs.declared.context.RenderContext.{Render
 ghost use Rattle.handlebars_values.specs.declared.run.Run.{Run};
 
 use crate::context::{RenderContext, first_run};
+use handlebars_base::error::RenderError;
+use handlebars_base::json::path::Path;
+use handlebars_base::json::value::ScopedJson;
 use handlebars_layers::partials::Partials;
 use handlebars_scope::block::BlockContext;
+use handlebars_scope::context::Context;
 use handlebars_template::template::Template;
 use handlebars_values::run::Run;
 use std::alloc::Global;
@@ -71,6 +80,24 @@ fn set_nearest_partials(
     if let Some(block) = blocks.front_mut() {
         block.set_local_partials(partials);
     }
+}
+
+/// Returns what a path leads to in the scope frames of a context and this data, with its full path if it is a value of the data. A
+/// value of a frame is copied.
+///
+/// # Errors
+///
+/// Fails with `InvalidJsonIndex` for a name in the path that isn't an index, and if memory runs out.
+pub fn find<'r, 'a: 'r>(
+    rc: &'r RenderContext,
+    given: &'a Context,
+    path: &'r Path,
+) -> Result<ScopedJson<'a>, RenderError>
+    ensures found { Answers found_of result
+        (resolve (state_of rc.now).recursive (state_of rc.now).blocks (reference_of path.now) (data_of given.now)) }
+    ensures plain { IfOk result (λ found. is_constant found ≡ false) }
+{
+    rc.find(given, path)
 }
 
 /// Returns how many members of the data were looked up for paths, by renderings and by evaluations.

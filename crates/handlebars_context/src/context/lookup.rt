@@ -59,7 +59,7 @@ impl RenderContext {
 
     // Returns what a path leads to in the scope frames and this data, with its full path if it is a value of the data. A value of
     // a frame is copied.
-    fn find<'r, 'a: 'r>(
+    pub(super) fn find<'r, 'a: 'r>(
         &'r self,
         given: &'a Context,
         path: &'r Path,

@@ -40,7 +40,7 @@ use Rattle.handlebars_base.specs.Scoped.{missing}
 use Rattle.handlebars_semantics.specs.Values.{HasName}
 use Rattle.handlebars_expand.specs.Targets.{target_in}
 use Rattle.handlebars_expand.specs.View.{name_alone}
-use Rattle.handlebars_expand.proofs.LoneValues.{lacks-name, named-inner, named-name, named-path, unnamed-inner, valued-inner}
+use Rattle.handlebars_expand.proofs.LoneValues.{lacks-name, named-inner, named-literal, named-name, named-path, unnamed-inner, valued-inner, valued-literal}
 use Rattle.handlebars_values.specs.ParamView.{value_found}
 use Rattle.handlebars_elements.proofs.LoneCalls.{comes-then, in_call-alone, inner-unwritten, literal-unwritten, lone-helped, lone-unnamed, section-by-name, section-by-no-path, section-by-path, value-lacks, value-missing, value-there}
 use Rattle.handlebars_elements.proofs.SectionCalls.{name_view, section-failed}
@@ -329,76 +329,90 @@ call::render_call-returns-else-is_section-clause-renders g t c = λ occurrence l
 
 -- ---- expressions without parameters, and sections
 
-pub alone::render_alone-returns-in-Some-clause-renders : goal.alone::render_alone-returns-in-Some-clause-renders
-alone::render_alone-returns-in-Some-clause-renders g u c = λ occurrence location alone captured captures.
+pub alone::render_lone_element-returns-in-Path-clause-renders : goal.alone::render_lone_element-returns-in-Path-clause-renders
+alone::render_lone_element-returns-in-Path-clause-renders g u c = λ occurrence location alone.
+    c.render_path.ensures.renders occurrence location alone (call_name-view c.args.helper.now ∙ ap param_view c.in-Path.is ∙ param_view-Path _)
+
+pub alone::render_lone_element-returns-in-Literal-clause-renders : goal.alone::render_lone_element-returns-in-Literal-clause-renders
+alone::render_lone_element-returns-in-Literal-clause-renders g u c = λ occurrence location alone.
+    c.render_literal.ensures.renders occurrence location alone (call_name-view c.args.helper.now ∙ ap param_view c.in-Literal.is ∙ param_view-Literal _)
+
+pub alone::render_lone_element-returns-in-Subexpression-clause-renders : goal.alone::render_lone_element-returns-in-Subexpression-clause-renders
+alone::render_lone_element-returns-in-Subexpression-clause-renders g u c = λ occurrence location alone.
+    c.render_inner.ensures.renders occurrence location alone
+    (call_name-view c.args.helper.now ∙ ap param_view c.in-Subexpression.is ∙ param_view-Subexpression _)
+
+pub alone::render_path-returns-in-Some-clause-renders : goal.alone::render_path-returns-in-Some-clause-renders
+alone::render_path-returns-in-Some-clause-renders g u c = λ occurrence location alone is captured captures.
     let call = call_view c.args.helper.now in
     let t = c.raw-name.result.now in
     let has = named-path (setting_in g.P.Registered.parts c.args.environment.now) (state_with captured c.args.run.now) (call_name call)
-    (reference_of c.in-Path.path) t (call_name-view c.args.helper.now ∙ ap param_view c.in-Path.is ∙ param_view-Path _) c.raw-name.ensures in
+    (reference_of c.args.path.now) t is c.raw-name.ensures in
     lone-helped _ _ occurrence call t (Some (target_in false t c.in-Some.target)) alone has (c.in-Some.ensures false [])
     (c.render_target.ensures.renders occurrence location alone captured captures has)
 
-pub alone::render_alone-returns-in-Done-clause-renders : goal.alone::render_alone-returns-in-Done-clause-renders
-alone::render_alone-returns-in-Done-clause-renders g u c = λ occurrence location alone captured captures.
+pub alone::render_path-returns-in-Done-clause-renders : goal.alone::render_path-returns-in-Done-clause-renders
+alone::render_path-returns-in-Done-clause-renders g u c = λ occurrence location alone is captured captures.
     let call = call_view c.args.helper.now in
-    let t = raw_of (reference_of c.in-Path.path) in
-    let is = call_name-view c.args.helper.now ∙ ap param_view c.in-Path.is ∙ param_view-Path _ in
+    let t = raw_of (reference_of c.args.path.now) in
     lone-helped _ _ occurrence call t None alone
     (named-path (setting_in g.P.Registered.parts c.args.environment.now) (state_with captured c.args.run.now) (call_name call)
-    (reference_of c.in-Path.path) t is refl)
+    (reference_of c.args.path.now) t is refl)
     (rw c.raw-name.ensures at (c.in-None.ensures false [])) (c.in-Done.ensures.writes occurrence location call (name_alone t) is captured)
 
-pub alone::render_alone-returns-in-Missing-clause-renders : goal.alone::render_alone-returns-in-Missing-clause-renders
-alone::render_alone-returns-in-Missing-clause-renders g u c = λ occurrence location alone captured captures.
+pub alone::render_path-returns-in-Missing-clause-renders : goal.alone::render_path-returns-in-Missing-clause-renders
+alone::render_path-returns-in-Missing-clause-renders g u c = λ occurrence location alone is captured captures.
     let call = call_view c.args.helper.now in
     let t = c.raw-name.result.now in
-    let is = call_name-view c.args.helper.now ∙ ap param_view c.in-Path.is ∙ param_view-Path _ in
     lone-helped _ _ occurrence call t None alone
     (named-path (setting_in g.P.Registered.parts c.args.environment.now) (state_with captured c.args.run.now) (call_name call)
-    (reference_of c.in-Path.path) t is c.raw-name.ensures)
+    (reference_of c.args.path.now) t is c.raw-name.ensures)
     (c.in-None.ensures false [])
     (comes-then _ _ (render_lone_as occurrence call (name_alone t) None) (render_found occurrence call (name_alone t) missing)
     (c.in-Missing.ensures.writes occurrence location call (name_alone t) is captured)
     (c.render_missing.ensures.renders occurrence location alone captured captures))
 
-pub alone::render_alone-returns-in-OutOfMemory-clause-renders : goal.alone::render_alone-returns-in-OutOfMemory-clause-renders
-alone::render_alone-returns-in-OutOfMemory-clause-renders g u c = λ occurrence location alone captured captures.
+pub alone::render_path-returns-in-OutOfMemory-clause-renders : goal.alone::render_path-returns-in-OutOfMemory-clause-renders
+alone::render_path-returns-in-OutOfMemory-clause-renders g u c = λ occurrence location alone is captured captures.
     let call = call_view c.args.helper.now in
-    let t = raw_of (reference_of c.in-Path.path) in
-    let is = call_name-view c.args.helper.now ∙ ap param_view c.in-Path.is ∙ param_view-Path _ in
+    let t = raw_of (reference_of c.args.path.now) in
     lone-helped _ _ occurrence call t None alone
     (named-path (setting_in g.P.Registered.parts c.args.environment.now) (state_with captured c.args.run.now) (call_name call)
-    (reference_of c.in-Path.path) t is refl)
+    (reference_of c.args.path.now) t is refl)
     (rw c.raw-name.ensures at (c.in-None.ensures false [])) (c.in-OutOfMemory.ensures.writes occurrence location call (name_alone t) is captured)
 
-pub alone::render_alone-returns-in-Error-clause-renders : goal.alone::render_alone-returns-in-Error-clause-renders
-alone::render_alone-returns-in-Error-clause-renders g u c = λ occurrence location alone captured captures.
+pub alone::render_path-returns-in-Error-clause-renders : goal.alone::render_path-returns-in-Error-clause-renders
+alone::render_path-returns-in-Error-clause-renders g u c = λ occurrence location alone is captured captures.
     let call = call_view c.args.helper.now in
-    let t = raw_of (reference_of c.in-Path.path) in
-    let is = call_name-view c.args.helper.now ∙ ap param_view c.in-Path.is ∙ param_view-Path _ in
+    let t = raw_of (reference_of c.args.path.now) in
     lone-helped _ _ occurrence call t None alone
     (named-path (setting_in g.P.Registered.parts c.args.environment.now) (state_with captured c.args.run.now) (call_name call)
-    (reference_of c.in-Path.path) t is refl)
+    (reference_of c.args.path.now) t is refl)
     (rw c.raw-name.ensures at (c.in-None.ensures false [])) (c.in-Error.ensures.writes occurrence location call (name_alone t) is captured)
 
-pub alone::render_alone-returns-in-Ok-clause-renders : goal.alone::render_alone-returns-in-Ok-clause-renders
-alone::render_alone-returns-in-Ok-clause-renders g u c = λ occurrence location alone captured captures.
+pub alone::render_literal-returns-clause-renders : goal.alone::render_literal-returns-clause-renders
+alone::render_literal-returns-clause-renders g u c = λ occurrence location alone is captured captures.
     let p = setting_in g.P.Registered.parts c.args.environment.now in
     let s = state_with captured c.args.run.now in
-    let call = call_view c.args.helper.now in
-    let found = value_found c.in-Ok.value in
-    let is = call_name-view c.args.helper.now ∙ ap param_view c.in-Subexpression.is ∙ param_view-Subexpression _ in
-    c.render_value-in-Ok.ensures.renders occurrence location alone captured captures
-    (named-inner p s (call_name call) _ found is (c.in-Ok.ensures.value captured))
-    (valued-inner p s (call_name call) _ found is (c.in-Ok.ensures.value captured))
-    (inner-unwalked p s _ found (c.in-Ok.ensures.value captured))
+    let q = call_name (call_view c.args.helper.now) in
+    let d = view c.args.value.now in
+    c.render_value.ensures.renders occurrence location alone captured captures (named-literal p s q d is) (valued-literal p s q d is) refl
 
-pub alone::render_alone-returns-in-Err-clause-renders : goal.alone::render_alone-returns-in-Err-clause-renders
-alone::render_alone-returns-in-Err-clause-renders g u c = λ occurrence location alone captured captures.
+pub alone::render_inner-returns-in-Ok-clause-renders : goal.alone::render_inner-returns-in-Ok-clause-renders
+alone::render_inner-returns-in-Ok-clause-renders g u c = λ occurrence location alone is captured captures.
+    let p = setting_in g.P.Registered.parts c.args.environment.now in
+    let s = state_with captured c.args.run.now in
+    let q = call_name (call_view c.args.helper.now) in
+    let found = value_found c.in-Ok.value in
+    let valued = c.in-Ok.ensures.value captured in
+    c.render_value.ensures.renders occurrence location alone captured captures
+    (named-inner p s q _ found is valued) (valued-inner p s q _ found is valued) (inner-unwalked p s _ found valued)
+
+pub alone::render_inner-returns-in-Err-clause-renders : goal.alone::render_inner-returns-in-Err-clause-renders
+alone::render_inner-returns-in-Err-clause-renders g u c = λ occurrence location alone is captured captures.
     rw c.from.ensures (lone-unnamed _ _ occurrence (call_view c.args.helper.now) (error_of c.in-Err.e)
     (λ other. unnamed-inner (setting_in g.P.Registered.parts c.args.environment.now) (state_with captured c.args.run.now)
-    (call_name (call_view c.args.helper.now)) _ _
-    (call_name-view c.args.helper.now ∙ ap param_view c.in-Subexpression.is ∙ param_view-Subexpression _) (c.in-Err.ensures.value captured other)))
+    (call_name (call_view c.args.helper.now)) _ _ is (c.in-Err.ensures.value captured other)))
 
 pub alone::render_missing-returns-in-Ok-clause-renders : goal.alone::render_missing-returns-in-Ok-clause-renders
 alone::render_missing-returns-in-Ok-clause-renders g u c = λ occurrence location alone captured captures.

@@ -38,8 +38,17 @@ decreases-element::render_expression g l = 16 * l.fuel + 12
 abbrev pub decreases-call::render_call : goal.decreases-call::render_call
 decreases-call::render_call g l = 16 * l.fuel + 11
 
-abbrev pub decreases-alone::render_alone : goal.decreases-alone::render_alone
-decreases-alone::render_alone g l = 16 * l.fuel + 11
+abbrev pub decreases-alone::render_lone_element : goal.decreases-alone::render_lone_element
+decreases-alone::render_lone_element g l = 16 * l.fuel + 11
+
+abbrev pub decreases-alone::render_path : goal.decreases-alone::render_path
+decreases-alone::render_path g l = 16 * l.fuel + 10
+
+abbrev pub decreases-alone::render_literal : goal.decreases-alone::render_literal
+decreases-alone::render_literal g l = 16 * l.fuel + 10
+
+abbrev pub decreases-alone::render_inner : goal.decreases-alone::render_inner
+decreases-alone::render_inner g l = 16 * l.fuel + 10
 
 abbrev pub decreases-section::render_section : goal.decreases-section::render_section
 decreases-section::render_section g l = 16 * l.fuel + 10

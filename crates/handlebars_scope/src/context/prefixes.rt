@@ -5,18 +5,12 @@ ghost use Rattle.serde_json.specs.View.{view};
 ghost use Rattle.handlebars_scope.specs.Resolve.{if_any, longest, member_at, or_else};
 ghost use Rattle.handlebars_scope.specs.ResolutionView.{hit_of, names_in};
 
-use crate::context::looked_up::LookedUp;
 use crate::context::members::value_by_name;
 use handlebars_base::json::value::Json;
 
 /// Returns what a name leads to under the longest prefix of a base path that has it, and the number of names in that prefix.
 /// Walks the path once, and remembers what the name leads to until a longer prefix has it.
-pub fn longest<'a>(
-    given: &'a Json,
-    base: &[String],
-    name: &String,
-    looked_up: &LookedUp,
-) -> Option<(usize, &'a Json)>
+pub fn longest<'a>(given: &'a Json, base: &[String], name: &String) -> Option<(usize, &'a Json)>
     ensures longest { option_map hit_of result
         ≡ longest (view given.now) (names_in base.now) (string_bytes name.now) }
     ensures retained { IfSome result (λ hit. hit.0 ≤ length base.now) }
@@ -25,13 +19,11 @@ pub fn longest<'a>(
     let mut best = None;
     for (retained, link) in base.iter().enumerate() {
         best = hit_at(here, name, retained, best);
-        looked_up.add(2);
         match value_by_name(here, link) {
             Some(next) => here = next,
             None => return best,
         }
     }
-    looked_up.add(1);
     hit_at(here, name, base.len(), best)
 }
 

@@ -4,8 +4,7 @@ use Rattle.handlebars_base.specs.PathAndData.{path_and_data}
 use Rattle.handlebars_base.specs.RenderRefusals.{refusal_of}
 use Rattle.handlebars_helpers.specs.Decoration.{by_text, inline_actions, sets_partial}
 use Rattle.handlebars_helpers.specs.DecoratorsView.{tag_view}
-use Rattle.handlebars_helpers.proofs.Decorations.{inline-fails}
-use Rattle.handlebars_helpers.proofs.Values.{answers-propagated}
+use Rattle.handlebars_helpers.proofs.Decorations.{answers-propagated, inline-fails}
 use Rattle.handlebars_helpers.proofs.decorators.inline.Goals as goal
 
 pub returns-in_err-body_of : goal.returns-in_err-body_of

@@ -2,7 +2,7 @@ use Rattle.std.proofs.Common.{◌∙◌, sym, ap}
 use Rattle.handlebars_base.specs.Outputs.{Held}
 use Rattle.handlebars_scope.specs.Contexts.{data_of}
 use Rattle.handlebars_expand.specs.Boxed.{error_of}
-use Rattle.handlebars_render.proofs.Refinement.{refines-propagated}
+use Rattle.handlebars_write.proofs.Refinement.{refines-propagated}
 use Rattle.handlebars.specs.Files.{tree_in}
 use Rattle.handlebars.proofs.OverLaws.{with-lawful}
 use Rattle.handlebars.proofs.Writing.{Writes-at, writes_run, writes_without_memory}

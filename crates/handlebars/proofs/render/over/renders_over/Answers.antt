@@ -1,7 +1,7 @@
 use Rattle.std.proofs.Common.{ap, inl, inr}
 use Rattle.std.proofs.lemmas.Bool.{cases_Bool}
 use Rattle.handlebars_base.specs.Outputs.{Held}
-use Rattle.handlebars_expand.specs.View.{has_failed}
+use Rattle.handlebars_context.specs.View.{has_failed}
 use Rattle.handlebars.proofs.Texts.{gives_string, string_fails}
 use Rattle.handlebars.proofs.render.over.renders_over.Goals as goal
 

@@ -6,10 +6,10 @@ use Rattle.handlebars_scope.specs.ResolutionView.{names_in}
 use Rattle.handlebars_scope.proofs.Resolutions.{value_at-append, value_at-on}
 use Rattle.handlebars_scope.proofs.context.walk.along_all.Goals as goal
 
-pub returns-in-Value-default : goal.returns-in-Value-default
-returns-in-Value-default c =
+pub returns-in-Value : goal.returns-in-Value
+returns-in-Value c =
     let base : value_at (view c.args.given.now) (names_in c.args.base.now)
-    ≡ gives (Some (view c.in-Value-default.at_base.now)) = search rules in
+    ≡ gives (Some (view c.in-Value.at_base.now)) = search rules in
     rw (value_at-on _ _ _ _ base) (search rules)
 
 pub returns-in_default : goal.returns-in_default

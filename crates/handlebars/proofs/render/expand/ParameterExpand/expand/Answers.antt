@@ -3,17 +3,17 @@ use Rattle.handlebars_base.specs.PathAndData.{path_and_data}
 use Rattle.handlebars_template.specs.TreeView.{param_view}
 use Rattle.handlebars_semantics.specs.Values.{HasWrittenValue}
 use Rattle.handlebars_expand.specs.Boxed.{error_of}
-use Rattle.handlebars_expand.specs.View.{state_of, Yields}
+use Rattle.handlebars_context.specs.View.{state_of}
+use Rattle.handlebars_expand.specs.View.{Yields}
 use Rattle.handlebars.specs.View.{setting_of}
 use Rattle.handlebars_expand.proofs.Propagated.{yields-propagated}
-use Rattle.handlebars_expand.proofs.Borrowed.{captured-outside}
 use Rattle.handlebars.proofs.render.expand.ParameterExpand.expand.Goals as goal
 
 pub returns-in-Ok-clause-expands : goal.returns-in-Ok-clause-expands
 returns-in-Ok-clause-expands g c = λ ready. subst
     (Yields (HasWrittenValue (setting_of g.E.UserParts.registered g.E.UserParts.user c.args.registry.now c.args.data.now)
     (state_of c.args.rc.now) (param_view c.args.self.now)) path_and_data)
-    (sym c.fail_after.ensures.answer) ((rw c.outside.ensures at c.in-Ok.ensures) captured-outside)
+    (sym c.fail_after.ensures.answer) c.in-Ok.ensures.value
 
 pub returns-in-Err-clause-expands : goal.returns-in-Err-clause-expands
 returns-in-Err-clause-expands g c = λ ready.
@@ -21,4 +21,4 @@ returns-in-Err-clause-expands g c = λ ready.
     (state_of c.args.rc.now) (param_view c.args.self.now) in
     subst (Yields has path_and_data) (sym c.fail_after-in-Err.ensures.answer)
     (yields-propagated has (error_of c.in-Err.e) c.into_error.result c.into_error.ensures
-    ((rw c.outside.ensures at c.in-Err.ensures) captured-outside))
+    c.in-Err.ensures.value)

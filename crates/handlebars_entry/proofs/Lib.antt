@@ -1,0 +1,5 @@
+mod OutsideInclusions
+mod SameData
+mod ArgumentsViewed
+mod Values
+mod Restored

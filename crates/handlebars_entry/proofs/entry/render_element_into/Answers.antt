@@ -1,0 +1,15 @@
+use Rattle.std.proofs.Common.{rules}
+use Rattle.handlebars_write.proofs.Refinement.{refines-run}
+use Rattle.handlebars_entry.proofs.Restored.{steps-restored}
+use Rattle.handlebars_entry.proofs.entry.render_element_into.Goals as goal
+
+pub returns-in-Out-clause-renders : goal.returns-in-Out-clause-renders
+returns-in-Out-clause-renders g c = λ occurrence.
+    let z = rw c.in-Out.is at (refines-run _ _ (c.render_outermost_element-outcome.ensures.renders occurrence)) in
+    steps-restored _ _ c.take-blocks.ensures.state c.restore.ensures.state c.into_result.ensures
+    (let same = rw c.in-Out.is at c.render_outermost_element-outcome.ensures.stays.same in search rules) z
+
+pub returns-in-Out-clause-unchanged : goal.returns-in-Out-clause-unchanged
+returns-in-Out-clause-unchanged g c =
+    let u = c.render_outermost_element-outcome.ensures.stays.unchanged in
+    c.restore.ensures.unchanged c.args.rc.now c.take-blocks.result.1 c.take-blocks.ensures (record { recursive = u.recursive; escapes = u.escapes })
