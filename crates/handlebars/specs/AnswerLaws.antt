@@ -22,7 +22,9 @@ pub record SourceAnswerLaws (p : Setting) (options : Options) (source : Text) : 
   pub agree : HasFixedMarkup p (FromSource options source)
   pub by_name : AgreesByName p options source
 
--- The same of the answer by a name, which agrees with the answer by the source of that template, both ways.
+-- There is at most one answer by the name; each of its pieces has an origin; it is independent of what it does not ask for, and
+-- agrees with the answer by the source of that template, both ways; if all templates are blind, its markup is independent of the
+-- strings in the data.
 pub record NamedAnswerLaws (p : Setting) (name : Text) : Type 0 where
   pub one : HasOneAnswer p (FromName p.parts.template name)
   pub origins : AnswerHasOrigins p (FromName p.parts.template name)

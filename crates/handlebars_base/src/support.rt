@@ -112,7 +112,7 @@ fn entity_of(byte: u8) -> Option<&'static str>
     }
 }
 
-/// The same as `escape_html`, under the name that rendering uses by default.
+/// Replaces the same seven characters as `escape_html` by HTML entities. Rendering uses it by default.
 ///
 /// # Errors
 ///

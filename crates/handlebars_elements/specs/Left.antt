@@ -84,7 +84,7 @@ IsNextOf d (next.Each v) = IsOf d v
 IsNextOf d (next.Steps steps) = Unit {0}
 IsNextOf d next.Section = ⊥
 
--- The same, but a section may be left.
+-- A value of `with` or `each` that was reached in data was reached in the given data, which are these. A section may be left.
 abbrev pub IsNextIfCalled : Data → Next → Type 0
 IsNextIfCalled d next.Nothing = Unit {0}
 IsNextIfCalled d next.Body = Unit {0}

@@ -41,7 +41,7 @@ around_in x = record { template = template_seen x.inclusion.now.placement.templa
 abbrev pub KnowsAround : {P : Type 0} → Bool → declared.Environment P → TreeOccurrence → Type 0
 KnowsAround asks x at = asks ≡ true → around at ≡ around_in x
 
--- The same, where this template is around the tree, and not that of the environment.
+-- The code knows what is around a tree, if pieces are emitted: this template, and the iterations of this environment.
 abbrev pub KnowsAroundAs : {P : Type 0} → Bool → declared.Environment P → TemplateReference → TreeOccurrence → Type 0
 KnowsAroundAs asks x template at =
     asks ≡ true → around at ≡ record { template = template_seen template; iterations = indexes_of x.iterations.now }

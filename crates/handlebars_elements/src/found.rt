@@ -84,7 +84,7 @@ pub(crate) fn write_path<'v, O, T: OutputMode<O>, P: Registered>(
     written
 }
 
-// The same in a run that is only read. The state of its line is given apart, and changed there.
+// Writes what a path leads to, in a run that is only read. The state of its line is given apart, and changed there.
 #[inline(always)]
 fn write_sought<'v, O, T: OutputMode<O>, P: Registered>(
     environment: &'v Environment<'v, 'v, P>,

@@ -49,7 +49,7 @@ pub(crate) fn eval_outermost<'v, P: Registered>(
     eval_over(&*template, alloc, &*parts, &*given, &*blocks, &null, run)
 }
 
-// The same, with a null that is borrowed.
+// Executes the decorators of a tree, with a null that is borrowed. Owns the layers outside of every inclusion.
 fn eval_over<'v, P: Registered>(
     template: &'v Template,
     alloc: Global,
@@ -78,7 +78,7 @@ fn eval_over<'v, P: Registered>(
     )
 }
 
-// The same, from these layers.
+// Executes the decorators of a tree, from these layers. Owns the inclusion.
 fn eval_from<'v, P: Registered>(
     template: &'v Template,
     alloc: Global,
@@ -142,7 +142,7 @@ pub(crate) fn eval_outermost_element<'v, P: Registered>(
     eval_element_over(&*element, alloc, &*parts, &*given, &*blocks, &null, run)
 }
 
-// The same, with a null that is borrowed.
+// Executes an element that is a decorator, with a null that is borrowed. Owns the layers outside of every inclusion.
 fn eval_element_over<'v, P: Registered>(
     element: &'v TemplateElement,
     alloc: Global,
@@ -172,7 +172,7 @@ fn eval_element_over<'v, P: Registered>(
     )
 }
 
-// The same, from these layers.
+// Executes an element that is a decorator, from these layers. Owns the inclusion.
 fn eval_element_from<'v, P: Registered>(
     element: &'v TemplateElement,
     alloc: Global,

@@ -1,4 +1,5 @@
-//! Renderings outside of every inclusion, over the frames from outside.
+//! Renderings outside of every inclusion, over the frames from outside. Each function owns what the next one borrows: the null,
+//! the layers, the inclusion, and the environment.
 
 ghost use Rattle.std.specs.Prelude.{◌≡◌, List, true};
 ghost use Rattle.serde_json.specs.Data.{Data};
@@ -66,7 +67,7 @@ pub(crate) fn render_outermost<'v, O, T: OutputMode<O>, P: Registered>(
     )
 }
 
-// The same, with a null that is borrowed.
+// Renders a tree, with a null that is borrowed. Owns the layers outside of every inclusion.
 fn render_over<'v, O, T: OutputMode<O>, P: Registered>(
     template: &'v Template,
     alloc: Global,
@@ -99,7 +100,7 @@ fn render_over<'v, O, T: OutputMode<O>, P: Registered>(
     )
 }
 
-// The same, from these layers.
+// Renders a tree from these layers. Owns the inclusion.
 fn render_from<'v, O, T: OutputMode<O>, P: Registered>(
     template: &'v Template,
     alloc: Global,
@@ -173,7 +174,7 @@ pub(crate) fn render_outermost_element<'v, O: Output, P: Registered>(
     )
 }
 
-// The same, with a null that is borrowed.
+// Renders an element alone, with a null that is borrowed. Owns the layers outside of every inclusion.
 fn render_element_over<'v, O: Output, P: Registered>(
     element: &'v TemplateElement,
     alloc: Global,
@@ -206,7 +207,7 @@ fn render_element_over<'v, O: Output, P: Registered>(
     )
 }
 
-// The same, from these layers.
+// Renders an element alone, from these layers. Owns the inclusion.
 fn render_element_from<'v, O: Output, P: Registered>(
     element: &'v TemplateElement,
     alloc: Global,
@@ -293,7 +294,8 @@ pub(crate) fn include_outermost<'v, 'd: 'v, O: Output, P: Registered>(
     )
 }
 
-// The same, with a null that is borrowed.
+// Includes what is found by the name of a tag of this view, with a null that is borrowed. Owns the layers outside of every
+// inclusion.
 fn include_over<'v, 'd: 'v, 'c, O: Output, P: Registered>(
     view: &'v Decorator<'d>,
     call: &'v Called<'c>,
@@ -328,7 +330,7 @@ fn include_over<'v, 'd: 'v, 'c, O: Output, P: Registered>(
     )
 }
 
-// The same, from these layers.
+// Includes what is found by the name of a tag of this view, from these layers. Owns the inclusion.
 fn include_from<'v, 'd: 'v, 'c, O: Output, P: Registered>(
     view: &'v Decorator<'d>,
     call: &'v Called<'c>,

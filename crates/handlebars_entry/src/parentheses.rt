@@ -49,7 +49,7 @@ pub(crate) fn inner_outermost<'v, 's, P: Registered>(
     inner_over(&*inner, alloc, &*parts, &*given, &*blocks, &null, run)
 }
 
-// The same, with a null that is borrowed.
+// Returns the value of an expression in parentheses, with a null that is borrowed. Owns the layers outside of every inclusion.
 fn inner_over<'v, 's, P: Registered>(
     inner: &'v Subexpression,
     alloc: Global,
@@ -70,7 +70,7 @@ fn inner_over<'v, 's, P: Registered>(
     inner_from(&*inner, alloc, &*parts, &*null, innermost, &iterations, run)
 }
 
-// The same, from these layers.
+// Returns the value of an expression in parentheses, from these layers. Owns the inclusion.
 fn inner_from<'v, 's, P: Registered>(
     inner: &'v Subexpression,
     alloc: Global,
@@ -99,7 +99,7 @@ fn inner_from<'v, 's, P: Registered>(
     inner_with(&*inner, &inclusion, innermost, iterations, run)
 }
 
-// The same, with what is borrowed.
+// Returns the value of an expression in parentheses, with what is borrowed.
 fn inner_with<'v, 's, P: Registered>(
     inner: &'v Subexpression,
     inclusion: &'v Inclusion<'v, P>,

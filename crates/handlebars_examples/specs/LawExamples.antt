@@ -59,7 +59,7 @@ abbrev pub NoOtherMarksExample : Type 0
 NoOtherMarksExample = (d : Data) (ps : List Piece) (o : Outcome)
     (a : RenderAnswers (over_stored titles d) (FromName titles (codes "page")) ps o) → HasNoOtherMarks a
 
--- The same holds of indentation, which consists of spaces and tabs.
+-- So each piece of indentation in its output consists of spaces and tabs.
 abbrev pub BlankIndentsExample : Type 0
 BlankIndentsExample = (d : Data) (ps : List Piece) (o : Outcome)
     → RenderAnswers (over_stored titles d) (FromName titles (codes "page")) ps o

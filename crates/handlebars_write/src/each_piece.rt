@@ -134,8 +134,8 @@ fn put<O: PieceOutput, L: ValuePath>(
     }
 }
 
-// The same, with the indexes of the iterations around the element. The location, the indexes and the path are borrowed for one
-// lifetime, which is that of the origin.
+// Emits the pieces of a text of this kind within iterations of these indexes. The location, the indexes and the path are borrowed
+// for one lifetime, which is that of the origin.
 #[inline(always)]
 fn put_within<'p, O: PieceOutput, L: ValuePath>(
     at: ElementLocation<'p>,
@@ -217,7 +217,7 @@ fn put_piece<O: PieceOutput>(
     }
 }
 
-// The same, with the indexes of the iterations around the element.
+// Emits a text of this kind as one piece within iterations of these indexes, whatever the state of the line.
 #[inline(always)]
 fn put_piece_within<'p, O: PieceOutput>(
     at: ElementLocation<'p>,
