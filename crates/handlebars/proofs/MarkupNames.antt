@@ -28,19 +28,6 @@ module _ (r : Registrations) (template : Text → Option Tree) (first : List Mar
       leads-goes first now next (faults_under r template n) (faults_under_all r template ns) all leads
       (subst (λ (k : Text). AddsFindings now next (faults_under r template k)) same finds)
 
-  pub names-next : (now next : List MarkupFault) (es rest : List (String Global × Template)) (e : String Global × Template)
-      (m : Text) → es ≡ e ∷ rest → m ≡ string_bytes e.0 → LeadsOver now (key_names es)
-      → AddsFindings now next (faults_under r template m) → LeadsOver next (key_names rest)
-  names-next now next es rest e m steps same leads finds =
-      one-more now next (string_bytes e.0) m (key_names rest) same
-      (subst (λ (xs : List (String Global × Template)). LeadsOver now (key_names xs)) steps leads) finds
-
-  pub names-end : (now : List MarkupFault) (es : List (String Global × Template)) → es ≡ [] → LeadsOver now (key_names es)
-      → AddsFindings first now all
-  names-end now es none leads =
-      leads-ends first now (faults_under_all r template (key_names es)) all leads
-      (ap (λ (xs : List (String Global × Template)). faults_under_all r template (key_names xs)) none)
-
   -- ---- those that weren't read
 
   module _ (read : Text → Option Tree) where

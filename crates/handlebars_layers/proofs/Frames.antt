@@ -1,17 +1,17 @@
 -- Frames by their number, and how paths are resolved from them.
-use Rattle.std.proofs.Common.{◌≡◌, ◌⊎◌, inl, inr, ◌<◌, ◌≤◌, ◌+◌, ◌-◌, nat_lt, ℕ, zero, suc, arith, Bool, true, false, List, [], ◌∷◌, ◌++◌, Option, Some, None, length, drop, refl, sym, ap, ◌∙◌}
+use Rattle.std.proofs.Common.{◌≡◌, ◌⊎◌, inl, inr, ◌<◌, ◌≤◌, ◌+◌, ◌-◌, nat_lt, ℕ, zero, suc, arith, Bool, true, false, List, [], ◌∷◌, Option, Some, None, length, drop, refl, sym, ap, ◌∙◌}
 use Rattle.std.proofs.Math.ListN.{drop_of_length-le}
 use Rattle.std.proofs.lemmas.Bool.Decides.{nat_tests}
 use Rattle.std.specs.Prelude.{slice_get}
 use Rattle.serde_json.specs.Data.{Data}
 use Rattle.handlebars_base.specs.Bytes.{Text}
-use Rattle.handlebars_base.specs.Optional.{◌>>=◌, with_or}
+use Rattle.handlebars_base.specs.Optional.{with_or}
 use Rattle.handlebars_base.specs.Path.{Segment}
-use Rattle.handlebars_scope.specs.Resolve.{along, frame_up, in_block_value, is_from_root, names_of, or_else, resolution_in, resolution_of_bound, resolution_of_name, unbound_resolution, ups_in, variable_at}
-use Rattle.handlebars_scope.specs.Scopes.{Bound, Frame}
+use Rattle.handlebars_scope.specs.Resolve.{along, frame_up, in_block_value, is_from_root, names_of, or_else, resolution_in, unbound_resolution, ups_in, variable_at}
+use Rattle.handlebars_scope.specs.Scopes.{Frame}
 use Rattle.handlebars_semantics.specs.State.{nearest_variables}
 use Rattle.handlebars_layers.specs.Chain.{names_at}
-use Rattle.handlebars_layers.specs.Frames.{base_value_at, bound_at, frames_up, frames_up_or_nearest, is_some_frame, nearest_resolution, frames_around, path_resolution}
+use Rattle.handlebars_layers.specs.Frames.{base_value_at, bound_at, frames_up, frames_up_or_nearest, is_some_frame, nearest_resolution, frames_around}
 
 lt_or_le : (a b : ℕ) → (a < b) ⊎ (b ≤ a)
 lt_or_le zero zero = inr (omega arith)
@@ -98,36 +98,7 @@ pub names-none : (fs : List Frame) → None ≡ slice_get fs 0 → names_at fs �
 names-none [] is = refl
 names-none (f ∷ fs) is = absurd (cc)
 
-pub outer-fewer : (fs gs : List Frame) → Some gs ≡ frames_around fs → length gs < length fs
-outer-fewer [] gs is = absurd (cc)
-outer-fewer (f ∷ fs) gs is = let e : gs ≡ fs = cc in let n : length gs ≡ length fs = ap length e in omega (arith, n)
-
 -- ---- so many frames out
-
-up-suc : (fs gs : List Frame) (n : ℕ) → Some gs ≡ frames_around fs → frames_up fs (suc n) ≡ frames_up gs n
-up-suc [] gs n is = absurd (cc)
-up-suc (f ∷ fs) gs n is = let e : fs ≡ gs = cc in ap (λ hs. frames_up hs n) e
-
-pub up-outer : (fs gs : List Frame) (n : ℕ) → 0 < n → Some gs ≡ frames_around fs → frames_up gs (n - 1) ≡ frames_up fs n
-up-outer fs gs zero h is = absurd (omega (arith, h))
-up-outer fs gs (suc n) h is = let e : suc n - 1 ≡ n = omega arith in ap (frames_up gs) e ∙ sym (up-suc fs gs n is)
-
-pub up-none : (fs : List Frame) (n : ℕ) → None ≡ frames_around fs → frames_up fs n ≡ None
-up-none [] n is = refl
-up-none (f ∷ fs) n is = absurd (cc)
-
-pub up-here : (fs : List Frame) → is_some_frame fs ≡ true → frames_up fs 0 ≡ Some fs
-up-here [] is = absurd (cc)
-up-here (f ∷ fs) is = refl
-
-pub up-nowhere : (fs : List Frame) → is_some_frame fs ≡ false → frames_up fs 0 ≡ None
-up-nowhere [] is = refl
-up-nowhere (f ∷ fs) is = absurd (cc)
-
-pub slice_get-up : (fs : List Frame) (n : ℕ) → slice_get fs n ≡ (frames_up fs n >>= λ gs. slice_get gs 0)
-slice_get-up [] n = refl
-slice_get-up (f ∷ fs) zero = refl
-slice_get-up (f ∷ fs) (suc n) = slice_get-up fs n
 
 pub variable-up : (fs gs : List Frame) (level : ℕ) (name : Text) → Some gs ≡ frames_up fs level
     → variable_at fs level name ≡ nearest_variables gs name
@@ -177,14 +148,6 @@ pub unbound-nearest : (recursive : Bool) (fs : List Frame) (n : ℕ) (segments :
     → None ≡ frames_up fs n → nearest_resolution recursive fs segments ≡ unbound_resolution recursive fs segments
 unbound-nearest recursive fs n segments not_root is none = rw (not_root, ← is) (sym (up-none-resolution recursive fs n segments none))
 
-pub unbound-root : (recursive : Bool) (fs gs : List Frame) (segments : List Segment) → is_from_root segments ≡ true → gs ≡ []
-    → along (names_at gs ++ names_of segments) ≡ unbound_resolution recursive fs segments
-unbound-root recursive fs gs segments root none = rw (root, none) refl
-
-pub unbound-root-nearest : (recursive : Bool) (fs gs : List Frame) (segments : List Segment) → is_from_root segments ≡ true → gs ≡ []
-    → nearest_resolution recursive gs segments ≡ unbound_resolution recursive fs segments
-unbound-root-nearest recursive fs gs segments root none = rw (root, none) refl
-
 pub unbound-up-or-nearest : (recursive : Bool) (fs gs : List Frame) (n : ℕ) (segments : List Segment) → is_from_root segments ≡ false
     → n ≡ ups_in segments → gs ≡ frames_up_or_nearest fs n → nearest_resolution recursive gs segments ≡ unbound_resolution recursive fs segments
 unbound-up-or-nearest recursive fs gs n segments not_root is same =
@@ -206,24 +169,4 @@ pub resolution-value : (recursive : Bool) (fs : List Frame) (segments : List Seg
 resolution-value recursive [] segments d is = absurd (cc)
 resolution-value recursive (f ∷ fs) segments d is = rw (← is) refl
 
-pub resolution-path : (recursive : Bool) (fs : List Frame) (segments : List Segment) → None ≡ base_value_at fs
-    → path_resolution recursive fs segments ≡ nearest_resolution recursive fs segments
-resolution-path recursive [] segments is = refl
-resolution-path recursive (f ∷ fs) segments is = rw (← is) refl
-
 -- ---- bound names
-
-pub name-here : (fs : List Frame) (name : Text) (rest : List Segment) (b : Bound) → Some b ≡ bound_at fs name
-    → resolution_of_name fs name rest ≡ Some (resolution_of_bound (names_at fs) b rest)
-name-here [] name rest b is = absurd (cc)
-name-here (f ∷ fs) name rest b is = rw (← is) refl
-
-pub name-outer : (fs gs : List Frame) (name : Text) (rest : List Segment) → None ≡ bound_at fs name → Some gs ≡ frames_around fs
-    → resolution_of_name fs name rest ≡ resolution_of_name gs name rest
-name-outer [] gs name rest none is = absurd (cc)
-name-outer (f ∷ fs) gs name rest none is = let e : gs ≡ fs = cc in rw (← none, e) refl
-
-pub name-nowhere : (fs : List Frame) (name : Text) (rest : List Segment) → None ≡ frames_around fs
-    → resolution_of_name fs name rest ≡ None
-name-nowhere [] name rest is = refl
-name-nowhere (f ∷ fs) name rest is = absurd (cc)

@@ -1,13 +1,12 @@
 -- What paths lead to in other data: values alone, without their paths.
-use Rattle.std.proofs.Common.{◌≡◌, ◌++◌, ◌∙◌, ℕ, List, Option, None, Some, Result, Ok, Err, refl, sym, ap}
-use Rattle.std.specs.Prelude.{IfOk, option_map}
+use Rattle.std.proofs.Common.{◌≡◌, ◌++◌, ◌∙◌, List, Option, None, Result, Ok, Err, sym, ap}
+use Rattle.std.specs.Prelude.{IfOk}
 use Rattle.std.specs.declared.alloc.AllocError.{AllocError}
 use Rattle.serde_json.specs.Data.{Data}
-use Rattle.handlebars_base.specs.Answers.{Answer, answer_map, fails, gives}
+use Rattle.handlebars_base.specs.Answers.{Answer, fails, gives}
 use Rattle.handlebars_base.specs.Bytes.{Text}
 use Rattle.handlebars_base.specs.Reasons.{Refusal}
-use Rattle.handlebars_base.specs.Scoped.{present_in}
-use Rattle.handlebars_scope.specs.Resolve.{found_along, found_prefix, found_within, then_at, value_at}
+use Rattle.handlebars_scope.specs.Resolve.{then_at, value_at}
 use Rattle.handlebars_scope.proofs.Resolutions.{value_at-append}
 use Rattle.handlebars_layers.specs.Destination.{found_in_data}
 use Rattle.handlebars_layers.specs.declared.destination.FoundInData.{FoundInData}
@@ -18,25 +17,6 @@ ok-data (Ok found) a b is same = is ∙ same
 ok-data (Err e) a b is same = is
 
 -- ---- values without paths
-
-pub present-along : (names : List Text) (a : Answer (Option Data)) → a ≡ answer_map present_in (answer_map (found_along names) a)
-present-along names (gives None) = refl
-present-along names (gives (Some d)) = refl
-present-along names (fails r) = refl
-
-pub present-within : (a : Answer (Option Data)) → a ≡ answer_map present_in (answer_map found_within a)
-present-within (gives None) = refl
-present-within (gives (Some d)) = refl
-present-within (fails r) = refl
-
-pub present-prefix : (base : List Text) (name : Text) (o : Option (ℕ × Data))
-    → gives (option_map (λ (hit : ℕ × Data). hit.1) o) ≡ answer_map present_in (gives (found_prefix base name o))
-present-prefix base name None = refl
-present-prefix base name (Some hit) = refl
-
-pub present-variable : (o : Option Data) → gives o ≡ answer_map present_in (gives (found_within o))
-present-variable None = refl
-present-variable (Some d) = refl
 
 -- ---- if the base is missing, or if its names fail, so do all of them
 

@@ -5,7 +5,6 @@ use Rattle.std.proofs.lemmas.List.{length-map}
 use Rattle.serde_json.specs.View.{view}
 use Rattle.serde_json.specs.declared.value.Value.{Value}
 use Rattle.handlebars_scope.specs.ScopeView.{frame_of, frames_of}
-use Rattle.handlebars_scope.specs.declared.block.BlockContext.{BlockContext}
 use Rattle.handlebars_scope.specs.Scopes.{Frame}
 use Rattle.handlebars_layers.specs.Chain as chain
 use Rattle.handlebars_layers.specs.Chain.{frames_from}
@@ -16,9 +15,6 @@ use Rattle.handlebars_layers.specs.declared.layer.Descent.{Descent}
 use Rattle.handlebars_layers.specs.declared.layer.LayerKind.{LayerKind}
 use Rattle.handlebars_layers.specs.declared.layer.Layer.{Layer, the_lemmas}
 use Rattle.handlebars_layers.specs.declared.layer.Layer.TheVariants as layer
-
-pub chain-Root : chain_of layer.Root ≡ chain.no_layer
-chain-Root = search (rules, the_lemmas)
 
 pub chain-Outside : (frames : _) → chain_of (layer.Outside frames) ≡ chain.outside (frames_of frames.now.items)
 chain-Outside frames = search (rules, the_lemmas)
@@ -31,10 +27,6 @@ chain-At node start skipped descent kind outer = search (rules, the_lemmas)
 pub chain-Value : (value : Bor Value) (kind : LayerKind) (outer : Bor Layer)
     → chain_of (layer.Value value kind outer) ≡ chain.value_layer (view value.now) (kind_view kind) (chain_of outer.now)
 chain-Value value kind outer = search (rules, the_lemmas)
-
-pub chain-Frame : (frame : Bor BlockContext) (outer : Bor Layer)
-    → chain_of (layer.Frame frame outer) ≡ chain.frame_layer (frame_of frame.now) (chain_of outer.now)
-chain-Frame frame outer = search (rules, the_lemmas)
 
 -- ---- frames from outside
 

@@ -1,6 +1,5 @@
 -- The members of a value that is iterated over, and the layers of its iterations.
-use Rattle.std.proofs.Common.{◌≡◌, ◌+◌, ◌<◌, ◌^◌, ℕ, suc, Bool, true, false, length, List, [], ◌∷◌, ◌++◌, Option, Some, String, Global, append_assoc, arith, decimal, string_bytes, string_cmp, refl, sym, ap, ◌∙◌, subst}
-use Rattle.std.specs.Prelude.{is_some}
+use Rattle.std.proofs.Common.{◌≡◌, ◌+◌, ◌<◌, ◌^◌, ℕ, suc, true, false, length, List, [], ◌∷◌, ◌++◌, Option, Some, String, Global, append_assoc, arith, decimal, string_bytes, string_cmp, refl, sym, ap, ◌∙◌, subst}
 use Rattle.std.specs.Cmp.Lexicographic.{slice_cmp}
 use Rattle.std.specs.List.{AllByRecursion}
 use Rattle.std.specs.List.Sorted.{IsStrictlySortedBy}
@@ -19,8 +18,7 @@ use Rattle.handlebars_scope.specs.Resolve.{item_at, member_at, then_at, value_at
 use Rattle.handlebars_scope.proofs.IndexNames.{index_of-decimal}
 use Rattle.handlebars_scope.proofs.Resolutions.{value_at-on}
 use Rattle.handlebars_helpers.specs.Iterations.{Iteration, item_count, item_iterations, iteration_name, iterations_of, member_count, member_iterations}
-use Rattle.handlebars_helpers.specs.IterationsLeft.{iterations_with}
-use Rattle.handlebars_layers.specs.Chain.{BlockNames, Chain, IsValue, NodesAreThere, names_from, node_layer, with_layer}
+use Rattle.handlebars_layers.specs.Chain.{BlockNames, Chain, IsValue, NodesAreThere, names_from, node_layer}
 use Rattle.handlebars_layers.specs.Layering.{iteration_kind_by_names}
 use Rattle.handlebars_layers.specs.Members.{AllKeyed, AllMembers, IsMember, has_keys}
 use Rattle.handlebars_layers.proofs.Nodes.{layer-there, leads, leads-of}
@@ -121,14 +119,6 @@ all-members es sorted = members-from es [] es (member_count (members_view es)) 0
 
 -- ---- one after another
 
-pub next-member : (v : Data) (ts rest : List Iteration) (o : Option Iteration) (t : Iteration) → ts ≡ iterations_with o rest
-    → o ≡ Some t → AllMembers v ts → IsMember v t × AllMembers v rest
-next-member v ts rest o t is some all = subst (AllMembers v) (is ∙ ap (λ next. iterations_with next rest) some) all
-
-pub next-keyed : (b : Bool) (ts rest : List Iteration) (o : Option Iteration) (t : Iteration) → ts ≡ iterations_with o rest
-    → o ≡ Some t → AllKeyed b ts → (is_some t.key ≡ b) × AllKeyed b rest
-next-keyed b ts rest o t is some all = subst (AllKeyed b) (is ∙ ap (λ next. iterations_with next rest) some) all
-
 -- ---- in the data
 
 pub member-there : (d v : Data) (names : List Text) (t : Iteration) → IsValue (value_at d names) v → IsMember v t
@@ -149,7 +139,3 @@ module _ (d v : Data) (start outer : Chain) (n : ℕ) (names : List Text) (block
   iteration-there t leads_on =
       layer-there d t.member start outer n names (iteration_kind_by_names block t) (member-there d v (names_from start n names) t is leads_on)
       started around
-
-  pub with-there : NodesAreThere d (node_layer v start n names (with_layer block) outer)
-  with-there =
-      layer-there d v start outer n names (with_layer block) (value-there d v (names_from start n names) is) started around

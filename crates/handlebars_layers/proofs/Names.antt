@@ -1,4 +1,4 @@
--- BlockNames in reverse.
+-- Names in reverse.
 use Rattle.std.proofs.Common.{◌≡◌, ◌++◌, ◌∷◌, [], List, refl, sym, ap, ◌∙◌, reverse}
 use Rattle.std.proofs.lemmas.List.{append_assoc, append-nil, reverse-append, reverse-reverse}
 use mathlib.Core.List.{reverse_aux}

@@ -1,5 +1,5 @@
 -- The values of layers are what their names lead to.
-use Rattle.std.proofs.Common.{◌≡◌, ℕ, true, List, [], ◌++◌, Option, Some, None, append_assoc, refl, sym, ap, ◌∙◌, subst}
+use Rattle.std.proofs.Common.{◌≡◌, ℕ, List, ◌++◌, Option, Some, None, append_assoc, refl, sym, ap, ◌∙◌, subst}
 use Rattle.serde_json.specs.Data.{Data}
 use Rattle.handlebars_base.specs.Answers.{Answer, answer_map, gives, fails}
 use Rattle.handlebars_base.specs.Bytes.{Text}
@@ -7,7 +7,7 @@ use Rattle.handlebars_base.specs.Reasons.{Refusal}
 use Rattle.handlebars_base.specs.Scoped.{missing}
 use Rattle.handlebars_scope.specs.Resolve.{along, found_along, found_by, then_at, value_at}
 use Rattle.handlebars_scope.proofs.Resolutions.{value_at-append, value_at-on}
-use Rattle.handlebars_layers.specs.Chain.{Chain, LayerKind, NodesAreThere, IsValue, frame_layer, frames, frames_from, is_no_layer, kind_names, names_at, names_from, no_layer, node_layer, outside, value_layer}
+use Rattle.handlebars_layers.specs.Chain.{Chain, LayerKind, NodesAreThere, IsValue, frames_from, kind_names, names_at, names_from, node_layer}
 
 pub leads : (a : Answer (Option Data)) (v : Data) → IsValue a v → a ≡ gives (Some v)
 leads (gives (Some e)) v h = ap (λ x. gives (Some x)) h
@@ -17,28 +17,10 @@ leads (fails r) v h = absurd h
 pub leads-of : (a : Answer (Option Data)) (v : Data) → a ≡ gives (Some v) → IsValue a v
 leads-of a v is = subst (λ b. IsValue b v) (sym is) refl
 
-pub no_layer-leads : (d : Data) (c : Chain) → is_no_layer c ≡ true → NodesAreThere d c
-no_layer-leads d no_layer is = tt
-no_layer-leads d (outside fs) is = absurd (cc)
-no_layer-leads d (node_layer v start n names kind outer) is = absurd (cc)
-no_layer-leads d (value_layer v kind outer) is = absurd (cc)
-no_layer-leads d (frame_layer f outer) is = absurd (cc)
-
-pub no_layer-frames : (c : Chain) → is_no_layer c ≡ true → frames c ≡ []
-no_layer-frames no_layer is = refl
-no_layer-frames (outside fs) is = absurd (cc)
-no_layer-frames (node_layer v start n names kind outer) is = absurd (cc)
-no_layer-frames (value_layer v kind outer) is = absurd (cc)
-no_layer-frames (frame_layer f outer) is = absurd (cc)
-
 -- what names lead to from a base is what all of them lead to
 pub found-from : (d e : Data) (xs ys : List Text) (a : Answer (Option Data)) → gives (Some e) ≡ value_at d xs → a ≡ value_at e ys
     → answer_map (found_along (xs ++ ys)) a ≡ found_by (along (xs ++ ys)) d
 found-from d e xs ys a base is = ap (answer_map (found_along (xs ++ ys))) (is ∙ sym (value_at-on d e xs ys (sym base)))
-
-pub there-from : (d e v : Data) (xs ys : List Text) → gives (Some e) ≡ value_at d xs → gives (Some v) ≡ value_at e ys
-    → IsValue (value_at d (xs ++ ys)) v
-there-from d e v xs ys base is = leads-of (value_at d (xs ++ ys)) v (value_at-on d e xs ys (sym base) ∙ sym is)
 
 -- if the base is missing, or if the names of the base fail, so do all of them
 pub found-nothing : (d : Data) (xs ys : List Text) → gives None ≡ value_at d xs → gives missing ≡ found_by (along (xs ++ ys)) d

@@ -1,5 +1,5 @@
 -- Frames that bind no name.
-use Rattle.std.proofs.Common.{◌≡◌, ◌+◌, ◌++◌, ℕ, zero, suc, Bool, true, false, List, [], ◌∷◌, Option, Some, None, drop, add-one, refl, subst, sym, ap, ◌∙◌}
+use Rattle.std.proofs.Common.{◌≡◌, ℕ, zero, suc, Bool, true, false, List, [], ◌∷◌, Option, Some, None, drop, refl, sym, ap, ◌∙◌}
 use Rattle.std.proofs.lemmas.List.Elements.{Contains-append_left, Contains-append_right, Contains-push}
 use Rattle.std.specs.Prelude.{is_some, option_map}
 use Rattle.serde_json.specs.Data.{Data}
@@ -7,12 +7,9 @@ use Rattle.handlebars_base.specs.Bytes.{Text}
 use Rattle.handlebars_base.specs.Optional.{with_or}
 use Rattle.handlebars_base.specs.Path.{Segment, local, named, root, up}
 use Rattle.handlebars_scope.specs.Resolve.{after_ups, bound_resolution, found_by, navigate, or_else, resolution_of_bound, resolution_of_name, unbound_resolution}
-use Rattle.handlebars_scope.specs.Scopes.{Base, Bound, Frame, at_path, at_value, bound_base, nothing_at}
-use Rattle.handlebars_helpers.specs.Iterations.{iteration_key}
-use Rattle.handlebars_semantics.specs.Inclusion.{with_bound}
-use Rattle.handlebars_layers.specs.Binding.{BindsSome, IsUnbound, MayBind, binds_names, is_some_value, kind_binds}
-use Rattle.handlebars_layers.specs.Chain.{BlockNames, Chain, LayerKind, NodesAreThere, block_bound, frame_layer, frames, is_outside, iteration, iteration_layer, kind_bound, kind_frame, kind_names, names_from, no_layer, node_layer, one, outer_chain, outside, partial_layer, skip, two, unnamed, value_bound, value_layer, with_layer}
-use Rattle.handlebars_layers.specs.ScopeFrames.{layer_depth}
+use Rattle.handlebars_scope.specs.Scopes.{Bound, Frame, nothing_at}
+use Rattle.handlebars_layers.specs.Binding.{BindsSome, IsUnbound, MayBind, binds_names}
+use Rattle.handlebars_layers.specs.Chain.{BlockNames, Chain, frame_layer, frames, no_layer, node_layer, one, outside, skip, two, unnamed, value_bound, value_layer}
 
 -- ---- frames
 
@@ -66,85 +63,9 @@ navigate-unbound recursive fs segments d is unbound =
 
 -- ---- layers
 
-pub outer-unbound : (b : Bool) (f : Frame) (fs : List Frame) → MayBind b (f ∷ fs) → MayBind b fs
-outer-unbound true f fs may = tt
-outer-unbound false f fs may = may.1
-
-names-unbound : (names : BlockNames) (b : Bound) (key : Data) (name : Text) → binds_names names ≡ false
-    → is_some (block_bound names b key name) ≡ false
-names-unbound unnamed b key name is = refl
-names-unbound (one first) b key name is = absurd (cc)
-names-unbound (two first second) b key name is = absurd (cc)
-
 value-unbound : (names : BlockNames) (b : Bound) (name : Text) → binds_names names ≡ false → is_some (value_bound names b name) ≡ false
 value-unbound unnamed b name is = refl
 value-unbound (one first) b name is = absurd (cc)
 value-unbound (two first second) b name is = absurd (cc)
 
-hash-unbound : (hs : List (Text × Data)) (name : Text) → is_some_value hs ≡ false → is_some (with_bound hs nothing_at name) ≡ false
-hash-unbound [] name is = refl
-hash-unbound (h ∷ hs) name is = absurd (cc)
-
-kind-unbound : (kind : LayerKind) (base : Base) (name : Text) → kind_binds kind ≡ false → is_some (kind_bound kind base name) ≡ false
-kind-unbound (iteration_layer i key last names) base name is =
-    names-unbound names (bound_base base) (iteration_key (iteration i key last)) name is
-kind-unbound (with_layer names) base name is = value-unbound names (bound_base base) name is
-kind-unbound (partial_layer hs) base name is = hash-unbound hs name is
-
--- a layer that is entered binds what its kind binds
-frame-may : (b : Bool) (base : Base) (kind : LayerKind) (outer nearest : Chain) → b ≡ kind_binds kind → Some outer ≡ Some nearest
-    → MayBind false (frames nearest) → MayBind b (kind_frame base kind (frames outer) ∷ frames outer)
-frame-may true base kind outer nearest is around unbound = tt
-frame-may false base kind outer nearest is around unbound =
-    let same : nearest ≡ outer = cc in (
-      λ name. kind-unbound kind base name (sym is),
-      subst (λ c. MayBind false (frames c)) same unbound,
-    )
-
-pub node-may : (b : Bool) (c nearest : Chain) (d : Data) (start : Chain) (n : ℕ) (names : List Text) (kind : LayerKind) (outer : Chain)
-    → c ≡ node_layer d start n names kind outer → b ≡ kind_binds kind → outer_chain c ≡ Some nearest
-    → MayBind false (frames nearest) → MayBind b (frames c)
-node-may b c nearest d start n names kind outer is binds around unbound =
-    subst (λ x. MayBind b (frames x)) (sym is)
-    (frame-may b (at_path (names_from start n (names ++ kind_names kind))) kind outer nearest binds
-    (sym (ap outer_chain is) ∙ around) unbound)
-
-pub value-may : (b : Bool) (c nearest : Chain) (d : Data) (kind : LayerKind) (outer : Chain)
-    → c ≡ value_layer d kind outer → b ≡ kind_binds kind → outer_chain c ≡ Some nearest
-    → MayBind false (frames nearest) → MayBind b (frames c)
-value-may b c nearest d kind outer is binds around unbound =
-    subst (λ x. MayBind b (frames x)) (sym is)
-    (frame-may b (at_value d) kind outer nearest binds (sym (ap outer_chain is) ∙ around) unbound)
-
 -- ---- the layers of a run
-
-pub skip-none : (c : Chain) → skip c 0 (frames c) ≡ frames c
-skip-none no_layer = refl
-skip-none (outside fs) = refl
-skip-none (node_layer d start m names kind outer) = refl
-skip-none (value_layer d kind outer) = refl
-skip-none (frame_layer f outer) = refl
-
-pub outside-depth : (c : Chain) → is_outside c ≡ true → 0 ≡ layer_depth c
-outside-depth no_layer is = absurd (cc)
-outside-depth (outside fs) is = refl
-outside-depth (node_layer d start m names kind outer) is = absurd (cc)
-outside-depth (value_layer d kind outer) is = absurd (cc)
-outside-depth (frame_layer f outer) is = absurd (cc)
-
-pub outside-leads : (d : Data) (c : Chain) → is_outside c ≡ true → NodesAreThere d c
-outside-leads d no_layer is = absurd (cc)
-outside-leads d (outside fs) is = tt
-outside-leads d (node_layer v start m names kind outer) is = absurd (cc)
-outside-leads d (value_layer v kind outer) is = absurd (cc)
-outside-leads d (frame_layer f outer) is = absurd (cc)
-
-pub entered-depth : (c nearest : Chain) → outer_chain c ≡ Some nearest → layer_depth nearest + 1 ≡ layer_depth c
-entered-depth no_layer nearest is = absurd (cc)
-entered-depth (outside fs) nearest is = absurd (cc)
-entered-depth (node_layer d start m names kind outer) nearest is =
-    let same : nearest ≡ outer = cc in add-one (layer_depth nearest) ∙ ap (λ x. suc (layer_depth x)) same
-entered-depth (value_layer d kind outer) nearest is =
-    let same : nearest ≡ outer = cc in add-one (layer_depth nearest) ∙ ap (λ x. suc (layer_depth x)) same
-entered-depth (frame_layer f outer) nearest is =
-    let same : nearest ≡ outer = cc in add-one (layer_depth nearest) ∙ ap (λ x. suc (layer_depth x)) same

@@ -1,8 +1,7 @@
-mod Variables
+mod Maps
 mod Indexes
 pub mod Lines
 pub mod Resolutions
 mod Prefixes
 pub mod Indents
-mod Merging
 pub mod IndexNames

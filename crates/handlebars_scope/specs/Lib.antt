@@ -10,4 +10,3 @@ pub mod ResolutionView
 pub mod Borrowing
 pub mod Indentation
 pub mod Merged
-pub mod MergedView

@@ -1,12 +1,10 @@
 -- What the code's scope frames represent.
-use Rattle.std.specs.Prelude.{List, map, String, string_bytes, Option, option_map, codes, if◌then◌else◌}
+use Rattle.std.specs.Prelude.{List, map, String, string_bytes, Option, option_map}
 use Rattle.std.specs.BTreeMap.{BTreeMap, get_by_text}
 use Rattle.std.specs.declared.alloc.Global.{Global}
 use Rattle.std.specs.declared.rc.Rc.{Rc}
-use Rattle.std.specs.Str.{bytes_eq}
 use Rattle.serde_json.specs.Data.{Data}
 use Rattle.serde_json.specs.View.{view}
-use Rattle.serde_json.specs.declared.value.Value as json
 use Rattle.handlebars_base.specs.Bytes.{Text}
 use Rattle.handlebars_template.specs.Tree.{Tree}
 use Rattle.handlebars_template.specs.TreeView.{tree_view}
@@ -18,18 +16,9 @@ use Rattle.handlebars_scope.specs.declared.block.BlockParamHolder.{BlockParamHol
 use Rattle.handlebars_scope.specs.declared.block.BlockParamHolder.TheVariants.{Path, Value}
 use Rattle.handlebars_scope.specs.declared.block.BlockParams.{BlockParams}
 
--- the values of a map by name
-abbrev pub values_of : BTreeMap (String Global) json.Value → Text → Option Data
-values_of values name = option_map view (get_by_text values name)
-
--- the variables by name; four of them have fields of their own
+-- the variables by name
 abbrev pub variables_of : LocalVars → Text → Option Data
-variables_of v name =
-    if bytes_eq (codes "first") name then option_map view v.first else (
-    if bytes_eq (codes "last") name then option_map view v.last else (
-    if bytes_eq (codes "index") name then option_map view v.index else (
-    if bytes_eq (codes "key") name then option_map view v.key else
-    values_of v.extra name)))
+variables_of v name = option_map view (get_by_text v.by_name name)
 
 abbrev pub bound_of : BlockParamHolder → Bound
 bound_of (Path path) = bound_path (map string_bytes path.items)

@@ -1,8 +1,7 @@
-//! Scope frames, which `each`, `with` and partial calls put around what they render.
+//! Scope frames that own what they hold: those that callers push, and those in which user-defined helpers render bodies.
 
-ghost use Rattle.std.specs.Prelude.{◌≡◌, ◌==◌, IfOk, IsTrue, OnErr, OnOk, Some, codes, false, is_some, map, option_map, string_bytes, true};
+ghost use Rattle.std.specs.Prelude.{◌≡◌, IfOk, IsTrue, OnErr, OnOk, Some, false, is_some, map, option_map, string_bytes, true};
 ghost use Rattle.std.specs.Borrow.{sem};
-ghost use Rattle.serde_json.specs.Data.{boolean, number, unsigned};
 ghost use Rattle.serde_json.specs.View.{view};
 ghost use Rattle.handlebars_base.specs.Bytes.{Text};
 ghost use Rattle.handlebars_template.specs.TreeView.{tree_view};
@@ -164,7 +163,7 @@ impl BlockContext {
         ensures { IfOk result (λ b. frame_of b ≡ record empty_frame { variable = (frame_of block.now).variable }) }
     {
         let mut copy = BlockContext::new(block.alloc);
-        copy.local_variables.copy(&block.local_variables)?;
+        copy.local_variables = block.local_variables.clone()?;
         Ok(copy)
     }
 
@@ -181,25 +180,6 @@ impl BlockContext {
         self.local_variables.put(name, value)
     }
 
-    /// Sets the variables of an iteration of `each`, except its key: `first`, `last` and `index`.
-    pub fn set_iteration(&mut self, index: usize, last: bool)
-        ensures { frame_of self.new ≡ record (frame_of self.old) {
-          variable = put_at (codes "index") (number (unsigned index))
-              (put_at (codes "last") (boolean last)
-              (put_at (codes "first") (boolean (index == 0)) (frame_of self.old).variable));
-        } }
-    {
-        self.local_variables.put_iteration(index, last);
-    }
-
-    /// Sets the variable `key`.
-    pub fn set_key(&mut self, key: Json)
-        ensures { frame_of self.new
-            ≡ record (frame_of self.old) { variable = put_at (codes "key") (view key) (frame_of self.old).variable } }
-    {
-        self.local_variables.put_key(key);
-    }
-
     /// Returns the variables.
     pub fn local_variables(&self) -> &LocalVars
         ensures { variables_of result.now ≡ (frame_of self.now).variable }
@@ -213,13 +193,6 @@ impl BlockContext {
         ensures value { variables_of result.now ≡ (frame_of self.old).variable }
     {
         &mut self.local_variables
-    }
-
-    /// Replaces all variables that were set by these.
-    pub fn set_local_variables(&mut self, variables: LocalVars)
-        ensures { frame_of self.new ≡ record (frame_of self.old) { variable = variables_of variables } }
-    {
-        self.local_variables = variables;
     }
 
     /// Returns the variable of this name, if it is set.
@@ -264,14 +237,6 @@ impl BlockContext {
         ensures { option_map (λ t. tree_view t.now.value) result ≡ (frame_of self.now).partial name.now }
     {
         self.local_partials.get(name)
-    }
-
-    /// Returns whether no template is registered in this block.
-    pub fn has_no_partials(&self) -> bool
-        ensures none { IsTrue result → (frame_of self.now).partial ≡ nothing_at }
-        ensures some { result ≡ false → (name : Text) × (is_some ((frame_of self.now).partial name) ≡ true) }
-    {
-        self.local_partials.is_empty()
     }
 
     /// Returns the templates that are registered in this block by name. None is registered afterwards.
@@ -323,15 +288,6 @@ impl BlockContext {
         ensures some { result ≡ false → (name : Text) × (is_some ((frame_of self.now).bound name) ≡ true) }
     {
         self.block_params.is_empty()
-    }
-
-    /// Removes all bindings of names.
-    pub fn unbind_names(&mut self)
-        ensures { frame_of self.new ≡ record (frame_of self.old) { bound = nothing_at } }
-    {
-        if !self.block_params.is_empty() {
-            self.block_params = BlockParams::new(self.alloc);
-        }
     }
 
     /// Binds these names, and no others.

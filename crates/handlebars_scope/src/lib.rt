@@ -1,5 +1,5 @@
-//! The state of a rendering: the data, the scope frames and where paths lead in them, and the line that is being
-//! written.
+//! The data of a rendering, the scope frames that callers and user-defined helpers have, where paths lead in them, and the
+//! line that is being written.
 #![tactic(auto)]
 
 pub mod block;
@@ -8,4 +8,3 @@ pub mod indentation;
 pub mod laws;
 pub mod line;
 pub mod local_vars;
-pub mod merge;

@@ -13,10 +13,10 @@ use Rattle.handlebars_base.specs.Values.{truth}
 use Rattle.handlebars_scope.specs.Scopes.{base_of}
 use Rattle.handlebars_helpers.specs.Boolean.{size}
 use Rattle.handlebars_helpers.specs.CallView.{HelperView}
-use Rattle.handlebars_helpers.specs.Choice.{Choice, body_in_block, body_in_iterations, built_in_choice, includes_zero, inverse_or_refusal, kind_log, nothing, the_boolean, the_inverse, the_value, walk_or_inverse}
+use Rattle.handlebars_helpers.specs.Choice.{Choice, body_in_block, body_in_iterations, built_in_choice, includes_zero, inverse_or_refusal, nothing, the_boolean, the_inverse, the_value, walk_or_inverse}
 use Rattle.handlebars_helpers.specs.Iterations.{item_count, iterations_of, member_count}
 use Rattle.handlebars_helpers.specs.Params.{is_missing, two_values}
-use Rattle.handlebars_values.specs.BuiltIn.{AsksFor, absent, decided_by_first, decided_by_two, decided_by_value, found_in, has_members, inverse_or_error, kind_by_first, kind_by_truth, kind_by_two, logged, passed_call, passing, required_data, truth_of, walk_of}
+use Rattle.handlebars_values.specs.BuiltIn.{AsksFor, absent, decided_by_first, decided_by_two, decided_by_value, found_in, has_members, inverse_or_error, kind_by_first, kind_by_truth, kind_by_two, passed_call, passing, required_data, truth_of, walk_of}
 use Rattle.handlebars_values.specs.ChoiceView.{test_of}
 use Rattle.handlebars_values.specs.declared.boolean.Test.{Test}
 use Rattle.handlebars_values.specs.declared.boolean.Test.TheVariants as test
@@ -164,7 +164,3 @@ module _ (strict : Bool) (h : HelperView) where
       → built_in_choice strict (kind_by_truth all) (passing h (vs, ws)) ≡ gives (the_boolean (truth_of all vs))
   decided-truth true vs ws = refl
   decided-truth false vs ws = refl
-
-  pub decided-line : (vs : List PathAndData) (ws : List (Text × PathAndData))
-      → built_in_choice strict kind_log (passing h (vs, ws)) ≡ logged vs ws
-  decided-line vs ws = refl

@@ -4,7 +4,7 @@ use Rattle.serde_json.specs.Data.{Data}
 use Rattle.handlebars_base.specs.Answers.{Answer, Answers, answer_map, gives, fails}
 use Rattle.handlebars_base.specs.Bytes.{Text}
 use Rattle.handlebars_base.specs.PathAndData.{PathAndData}
-use Rattle.handlebars_base.specs.Reasons.{Reason, Refusal, helper_not_found, out_of_memory}
+use Rattle.handlebars_base.specs.Reasons.{Refusal, helper_not_found, out_of_memory}
 use Rattle.handlebars_base.specs.RenderRefusals.{plain_refusal, reason_in, refusal_of}
 use Rattle.handlebars_base.specs.Scoped.{Found}
 use Rattle.handlebars_base.specs.declared.error.render_error.RenderError.{RenderError}
@@ -12,9 +12,9 @@ use Rattle.handlebars_template.specs.Tree.{Args, Binding, args_hash, args_params
 use Rattle.handlebars_helpers.specs.CallView.{CallView, HelperView, plain_value, with_constants}
 use Rattle.handlebars_helpers.specs.Callee.{Callee, LocalHelper, Target, built, calls_local, calls_registered}
 use Rattle.handlebars_helpers.specs.Choice.{BuiltInKind, Choice, built_in_choice}
-use Rattle.handlebars_semantics.specs.Asks.{Asks, Then, only, goes_on, first_fails, ◌>>=◌}
+use Rattle.handlebars_semantics.specs.Asks.{Asks, only, goes_on, first_fails, ◌>>=◌}
 use Rattle.handlebars_semantics.specs.State.{Parts, Setting, State, helper_for, local_call}
-use Rattle.handlebars_semantics.specs.Values.{HasHelpedValue, HasName, HasRegisteredValue, HashHasValues, HaveValues, choice_value, is_viewed, view_without_bodies}
+use Rattle.handlebars_semantics.specs.Values.{HasHelpedValue, HasRegisteredValue, HashHasValues, HaveValues, choice_value, is_viewed, view_without_bodies}
 use Rattle.handlebars_expand.specs.Bound.{dispatch}
 use Rattle.handlebars_expand.specs.View.{Yields}
 use Rattle.handlebars_expand.proofs.BoundCalls.{value-unbound}
@@ -68,11 +68,6 @@ module _ (t : Text) (values : Asks (List PathAndData)) (hash : Asks (List (Text 
   viewed-by named a has (goes_on {x = x} is rest) =
       let same : t ≡ x = cc in goes_on (subst (λ z. named (gives z)) same has) rest
   viewed-by named a has (first_fails is) = absurd (gives≢fails (sym is))
-
-  pub yields-viewed : {T : Type 0} (seen : T → CallView) (named : Asks Text) (r : Result T RenderError) → named (gives t)
-      → Yields (is_viewed (only (gives t)) values hash) seen r → Yields (is_viewed named values hash) seen r
-  yields-viewed seen named (Ok x) has y = viewed-by named (gives (seen x)) has y
-  yields-viewed seen named (Err e) has y = λ other. viewed-by named (fails (refusal_of e)) has (y other)
 
   module _ (p : Setting) (s : State) (b : Binding) (named : Asks Text) (has : named (gives t)) where
     -- the value of the callee is that of the call

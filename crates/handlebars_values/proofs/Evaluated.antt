@@ -1,5 +1,5 @@
 -- The values that a built-in helper is called with, evaluated one after the other.
-use Rattle.std.proofs.Common.{◌≡◌, ◌++◌, ◌-◌, ◌≤◌, ℕ, suc, length, drop, map, List, [], ◌∷◌, Bor, Option, Some, None, option_map, Result, String, Global, refl, sym, ap, ◌∙◌, subst, arith}
+use Rattle.std.proofs.Common.{◌≡◌, ◌++◌, ◌-◌, ℕ, suc, length, drop, map, List, [], ◌∷◌, Bor, Option, Some, None, option_map, Result, refl, sym, ap, ◌∙◌, subst, arith}
 use Rattle.std.specs.Prelude.{slice_get}
 use Rattle.std.specs.Slice.{IsItemAt}
 use Rattle.std.proofs.lemmas.Option.{slice_get-map, slice_get_past, slice_get_read}
@@ -12,8 +12,8 @@ use Rattle.handlebars_base.specs.Optional.{with_or}
 use Rattle.handlebars_base.specs.PathAndData.{PathAndData}
 use Rattle.handlebars_base.specs.Reasons.{Refusal}
 use Rattle.handlebars_base.specs.declared.error.render_error.RenderError.{RenderError}
-use Rattle.handlebars_template.specs.Tree.{Hash, Params, as_name, no_hash}
-use Rattle.handlebars_template.specs.TreeView.{hash_view, param_view, params_view}
+use Rattle.handlebars_template.specs.Tree.{Hash, Params, as_name}
+use Rattle.handlebars_template.specs.TreeView.{param_view, params_view}
 use Rattle.handlebars_template.specs.declared.template.tree.Parameter.{Parameter}
 use Rattle.handlebars_helpers.specs.CallView.{HelperView, plain_value}
 use Rattle.handlebars_helpers.specs.Choice.{BuiltInKind, Choice, built_in_choice}
@@ -21,7 +21,7 @@ use Rattle.handlebars_semantics.specs.Asks.{Asks, only, ◌>>=◌, goes_on, firs
 use Rattle.handlebars_semantics.specs.State.{Setting, State}
 use Rattle.handlebars_semantics.specs.Values.{HasWrittenValue, HashHasValues, HaveValues, as_written}
 use Rattle.handlebars_expand.specs.View.{Yields}
-use Rattle.handlebars_expand.proofs.Values.{ParamsLeft, params-past, yields-answer, yields-then}
+use Rattle.handlebars_expand.proofs.Values.{ParamsLeft, yields-answer, yields-then}
 use Rattle.handlebars_values.specs.BuiltIn.{HasConstantOr, HasParamValue, HasValueAt, Passed, passing, written_first}
 
 abbrev no_answer : (A : Type 0) → Refusal → Answer A
@@ -44,10 +44,6 @@ length-constants (v ∷ vs) = ap suc (length-constants vs)
 pub from-constants : (k : ℕ) (vs : List Value) {n m : ℕ} → n ≡ k - m → m ≡ length vs → n ≡ k - length (map view vs)
 from-constants k vs is same = is ∙ ap (λ (z : ℕ). k - z) (same ∙ length-constants vs)
 
-pub hash_view-empty : (es : List (String Global × Parameter)) → length es ≡ 0 → hash_view es ≡ no_hash
-hash_view-empty [] is = refl
-hash_view-empty (e ∷ es) is = absurd (omega (arith, is))
-
 -- ---- what is at an index
 
 pub lookup-item : {X : Type 0} (xs : List X) (i : ℕ) (o : Option (Bor X)) → IsItemAt xs i o → slice_get xs i ≡ option_map (λ x. x.now) o
@@ -64,10 +60,6 @@ pub parameter-at : (qs : List Parameter) (vs : List Value) (i : ℕ) {j m : ℕ}
 parameter-at qs vs i o is from same = ap (slice_get qs) (sym (from-constants i vs from same)) ∙ lookup-item qs _ o is
 
 module _ (p : Setting) (s : State) where
-  -- no parameters are left
-  pub have-none : (qs : List Parameter) (n : ℕ) → length qs ≤ n → HaveValues p s (params_view (drop n qs)) (gives [])
-  have-none qs n over = subst (λ (z : Params). HaveValues p s z (gives [])) (sym (params-past qs n over)) refl
-
   -- all parameters are left
   pub params-begin : (all : Params) → ParamsLeft p s all all []
   params-begin all = record { so = step }

@@ -10,7 +10,7 @@ use Rattle.handlebars_base.specs.Scoped.{Found, present_in}
 use Rattle.handlebars_base.specs.declared.error.render_error.RenderError.{RenderError}
 use Rattle.handlebars_scope.specs.Resolve.{resolve}
 use Rattle.handlebars_scope.specs.Scopes.{Frame}
-use Rattle.handlebars_semantics.specs.Asks.{Asks, only}
+use Rattle.handlebars_semantics.specs.Asks.{only}
 use Rattle.handlebars_semantics.specs.State.{Setting, State}
 use Rattle.handlebars_semantics.specs.Values.{as_read, path_value, without_path}
 use Rattle.handlebars_expand.specs.Boxed.{answer_of, error_of}
@@ -56,12 +56,6 @@ present-in recursive r {gs = gs} {d = d} is same_frames same_data =
 pub yields-same : {T : Type 0} (seen : T → Found) (r : Result T RenderError) {a b : Answer Found} → a ≡ b → Answers seen r a
     → Yields (only b) seen r
 yields-same seen r {b = b} same is = yields-answer seen b r (subst (λ (z : Answer Found). Answers seen r z) same is)
-
--- The call runs out of memory.
-pub yields-out_of_memory : {T A : Type 0} (m : Asks A) (seen : T → A) (r : Result T BoxedError)
-    → IsErrAnd r (λ e. reason_in (error_of e) ≡ out_of_memory) → Yields m seen (answer_of r)
-yields-out_of_memory m seen (Ok x) is = absurd is
-yields-out_of_memory m seen (Err e) is = λ other. absurd (other is)
 
 pub answers-out_of_memory : {T A : Type 0} (seen : T → A) (a : Answer A) (r : Result T BoxedError)
     → IsErrAnd r (λ e. reason_in (error_of e) ≡ out_of_memory) → Answers seen (answer_of r) a

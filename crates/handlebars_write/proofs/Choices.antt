@@ -1,5 +1,5 @@
 -- What a program leaves to another one, and what a helper chooses.
-use Rattle.std.proofs.Common.{◌≡◌, ◌≢◌, Ok, Err, List, subst}
+use Rattle.std.proofs.Common.{◌≡◌, ◌≢◌, Err, List, subst}
 use Rattle.std.specs.declared.io.Error.{Error}
 use Rattle.handlebars_base.specs.Answers.{gives, fails}
 use Rattle.handlebars_base.specs.Reasons.{out_of_memory}
@@ -18,8 +18,8 @@ use Rattle.handlebars_semantics.specs.Questions.{HasChoice, choice_of}
 use Rattle.handlebars_semantics.specs.Runs.{Outcome, Runs}
 use Rattle.handlebars_semantics.specs.State.{Setting, State, nearest_variables}
 use Rattle.handlebars_semantics.specs.Steps.{Prog, Steps, ask, ◌>>=◌}
-use Rattle.handlebars_expand.specs.View.{GivesValue, ValueFails}
-use Rattle.handlebars_write.specs.View.{Answered, RefinesProg, RefinesSteps, Holding, Moment, moment_at, goes_on, is_over}
+use Rattle.handlebars_expand.specs.View.{ValueFails}
+use Rattle.handlebars_write.specs.View.{Answered, RefinesProg, RefinesSteps, Holding, Moment, moment_at, is_over}
 use Rattle.handlebars_expand.proofs.Asked.{gives-ask, fails-ask}
 use Rattle.handlebars_write.proofs.Refinement.{refines-get, refines-no_value, refines-value, refines_prog-no_value, refines_prog-value}
 
@@ -29,38 +29,6 @@ Leaves p m s n = (k : Unit {0} → Steps) (ps : List Piece) (o : Outcome) → Ru
 
 module _ (p : Setting) (may : Error → Type 0) where
   -- ---- what is left
-
-  pub refines-leaves : (m n : Prog (Unit {0})) (k : Unit {0} → Steps) {s : State} {h : Holding} {r : Answered} {last : Moment}
-      → Leaves p m s n → RefinesSteps p (n k) may (moment_at s h) r last → RefinesSteps p (m k) may (moment_at s h) r last
-  refines-leaves m n k leaves c = record {
-    pieces = c.pieces;
-    outcome = c.outcome;
-    runs = leaves k c.pieces c.outcome c.runs;
-    gains = c.gains;
-    reports = c.reports;
-  }
-
-  leaves-refines_prog : (m n : Prog (Unit {0})) {s : State} {h : Holding} {r : Answered} {after : Moment}
-      → Leaves p m s n → RefinesProg p n may (moment_at s h) r after → RefinesProg p m may (moment_at s h) r after
-  leaves-refines_prog m n leaves (goes_on c) = goes_on (λ k r last d. refines-leaves m n k leaves (c k r last d))
-  leaves-refines_prog m n leaves (is_over c) = is_over (λ k. refines-leaves m n k leaves (c k))
-
-  -- what is left is executed
-  pub refines_prog-leaves : (m n : Prog (Unit {0})) {s : State} {h new : Holding} {r : Answered} {after : Moment}
-      → Leaves p m s n → new ≡ h → RefinesProg p n may (moment_at s new) r after → RefinesProg p m may (moment_at s h) r after
-  refines_prog-leaves m n {s = s} {r = r} {after = after} leaves same a =
-      leaves-refines_prog m n leaves (subst (λ (z : Holding). RefinesProg p n may (moment_at s z) r after) same a)
-
-  -- nothing is left
-  pub refines_prog-gives : (m : Prog (Unit {0})) {s : State} {h : Holding} {u : Unit {0}} → GivesValue p m s tt
-      → RefinesProg p m may (moment_at s h) (Ok u) (moment_at s h)
-  refines_prog-gives m g = goes_on (λ k r last c. record {
-    pieces = c.pieces;
-    outcome = c.outcome;
-    runs = g k c.pieces c.outcome c.runs;
-    gains = c.gains;
-    reports = c.reports;
-  })
 
   pub refines_prog-fails : (m : Prog (Unit {0})) {s next : State} {h : Holding} (e : RenderError)
       → (reason_in e ≢ out_of_memory → ValueFails p m s (refusal_of e))

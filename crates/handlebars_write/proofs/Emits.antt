@@ -44,10 +44,6 @@ one-line zero (b ∷ c ∷ t) some le all = absurd (omega arith)
 one-line (suc n) (b ∷ c ∷ t) some le all =
     rw (ne_eqb b newline all.0) (ap (longer b) (one-line n (c ∷ t) (omega arith) (omega arith) all.1))
 
-no-line : (t : Text) → length t ≤ 0 → t ≡ []
-no-line [] le = refl
-no-line (b ∷ t) le = absurd (omega arith)
-
 -- ---- the pieces of a text, from a byte on
 
 abbrev pub pieces_from : Origin → Text → Text → ℕ → List Piece

@@ -36,12 +36,6 @@ use Rattle.handlebars_write.proofs.Refinement.{runs_to_end, gains-none, memory_o
 abbrev pub state_in_inclusion : Option Text → CapturedBlocks → ℕ → State → State
 state_in_inclusion i ks n s = record s { indent = i; captured = ks; inclusions = n }
 
--- an inclusion that is begun
-pub begin_inclusion-so : (i j : Option Text) (k : Option (List Piece)) (ks : CapturedBlocks) (m n : ℕ) (s : State) {c : Option Text} {b : State}
-    → n ≡ m + 1 → b ≡ with_current c s → state_in_inclusion i (k ∷ ks) n b ≡ with_current c (begin_inclusion i k (state_in_inclusion j ks m s))
-begin_inclusion-so i j k ks m n s {c = c} more is =
-    ap (state_in_inclusion i (k ∷ ks) n) is ∙ ap (λ z. state_in_inclusion i (k ∷ ks) z (with_current c s)) more
-
 -- and what is captured for it
 pub captured-more : (i j : Option Text) (k : Option (List Piece)) (ks : CapturedBlocks) (m n : ℕ) (s : State) → n ≡ m + 1
     → state_in_inclusion i (k ∷ ks) n s ≡ begin_inclusion i k (state_in_inclusion j ks m s)
@@ -430,12 +424,3 @@ module _ (p : Setting) (may : Error → Type 0) where
           subst (λ (z : Option (List Piece)). RefinesProg p (write_captured occurrence b s z) may (moment_at s h) (Err e) (moment_at next h)) (sym (captured-nothing asks ps is))
           (subst (λ (z : Body). RefinesProg p (render_own_block occurrence z s) may (moment_at s h) (Err e) (moment_at next h)) same
           (refines_prog-fail p may e why))
-
--- the same output, by an equal name
-pub after-same : (p : Setting) (may : Error → Type 0) {m : Prog (Unit {0})} {before : Moment} {next : State} {r : Answered} {new last : Holding}
-    → new ≡ last → RefinesProg p m may before r (moment_at next new) → RefinesProg p m may before r (moment_at next last)
-after-same p may {m = m} {before = before} {next = next} {r = r} is c = subst (λ (z : Holding). RefinesProg p m may before r (moment_at next z)) is c
-
-pub after-same_out : (p : Setting) (may : Error → Type 0) {k : Steps} {before : Moment} {next : State} {r : Answered} {new last : Holding}
-    → new ≡ last → RefinesSteps p k may before r (moment_at next new) → RefinesSteps p k may before r (moment_at next last)
-after-same_out p may {k = k} {before = before} {next = next} {r = r} is c = subst (λ (z : Holding). RefinesSteps p k may before r (moment_at next z)) is c

@@ -1,9 +1,6 @@
 -- What iterations and scope frames execute.
-use Rattle.std.proofs.Common.{◌≡◌, ℕ, ◌+◌, List, [], ◌∷◌, Option, Result, Ok, Err, sym, subst}
+use Rattle.std.proofs.Common.{◌≡◌, ℕ, ◌+◌, List, [], ◌∷◌, Option, Ok, Err, sym, subst}
 use Rattle.std.specs.declared.io.Error.{Error}
-use Rattle.std.specs.Result.{IsErrAnd}
-use Rattle.handlebars_base.specs.Reasons.{out_of_memory}
-use Rattle.handlebars_base.specs.RenderRefusals.{reason_in}
 use Rattle.handlebars_base.specs.Bytes.{Text}
 use Rattle.handlebars_base.specs.declared.error.render_error.RenderError.{RenderError}
 use Rattle.handlebars_semantics.specs.Occurrences.{as_iteration, body_at, Occurrence}
@@ -12,10 +9,8 @@ use Rattle.handlebars_helpers.specs.Iterations.{Iteration, iteration_frame}
 use Rattle.handlebars_semantics.specs.Execute.{render_branch, run_iteration, run_iterations}
 use Rattle.handlebars_semantics.specs.State.{Setting, State, pop_frame, with_nearest}
 use Rattle.handlebars_semantics.specs.Steps.{Steps, ◌>>◌}
-use Rattle.handlebars_expand.specs.Boxed.{answer_of, error_of}
-use Rattle.handlebars_expand.specs.declared.boxed.BoxedError.{BoxedError}
 use Rattle.handlebars_write.specs.View.{moment_at, Answered, RefinesProg, RefinesSteps, Holding, Moment, goes_on, is_over}
-use Rattle.handlebars_write.proofs.Refinement.{refines_prog-changed, refines_prog-out_of_memory}
+use Rattle.handlebars_write.proofs.Refinement.{refines_prog-changed}
 
 module _ (p : Setting) (may : Error → Type 0) where
   -- ---- the loop over iterations
@@ -45,16 +40,6 @@ module _ (p : Setting) (may : Error → Type 0) where
       is_over (λ next. pop_frame next (Err e) after
       (subst (λ (ts : List Iteration). RefinesSteps p (run_iterations occurrence i h path ts next) may now (Err e) after) (sym is)
       (iteration (λ u. run_iterations occurrence (i + 1) h path more next))))
-
-  -- an iteration for which memory runs out
-  pub iterations-no_memory : (occurrence : Occurrence) (i : ℕ) (h : HelperView) (path : Option (List Text)) (all : List Iteration) (t : Iteration)
-      {rest more : List Iteration} {first : Moment} {s next : State} {held : Holding} (r : Result (Unit {0}) BoxedError)
-      → rest ≡ t ∷ more → IterationsLeft occurrence i h path all rest first (moment_at s held)
-      → IsErrAnd r (λ e. reason_in (error_of e) ≡ out_of_memory)
-      → RefinesProg p (run_iterations occurrence 0 h path all) may first (answer_of r) (moment_at next held)
-  iterations-no_memory occurrence i h path all t (Ok u) is left memory = absurd memory
-  iterations-no_memory occurrence i h path all t (Err e) is left memory =
-      iterations-over occurrence i h path all is left (refines_prog-out_of_memory p may (Err e) memory)
 
   pub iterations-end : (occurrence : Occurrence) (i : ℕ) (h : HelperView) (path : Option (List Text)) (all : List Iteration)
       {rest : List Iteration} {first now : Moment} {u : Unit {0}}

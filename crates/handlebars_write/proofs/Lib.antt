@@ -3,7 +3,6 @@ mod Causes
 pub mod Refinement
 pub mod Puts
 pub mod Sinks
-pub mod Outcomes
 pub mod Emits
 pub mod Emitted
 pub mod Shows

@@ -1,7 +1,7 @@
 use Rattle.std.proofs.Common.{ap}
 use Rattle.handlebars_template.specs.TreeView.{tree_view}
 use Rattle.handlebars_scope.specs.ScopeView.{frame_of}
-use Rattle.handlebars_scope.proofs.Variables.{get_by_text-put}
+use Rattle.handlebars_scope.proofs.Maps.{get_by_text-put}
 use Rattle.handlebars_scope.proofs.block.BlockContext.set_local_partial.Goals as goal
 
 pub returns-clause-ok : goal.returns-clause-ok

@@ -1,5 +1,5 @@
 use Rattle.handlebars_scope.specs.ScopeView.{bound_of}
-use Rattle.handlebars_scope.proofs.Variables.{get_by_text-put}
+use Rattle.handlebars_scope.proofs.Maps.{get_by_text-put}
 use Rattle.handlebars_scope.proofs.block.BlockParams.add.Goals as goal
 
 pub returns-clause-ok : goal.returns-clause-ok

@@ -2,7 +2,7 @@ use Rattle.std.proofs.Common.{List, ℕ, refl, sym, ◌∙◌}
 use Rattle.std.proofs.lemmas.Bool.{false≢true}
 use Rattle.std.proofs.lemmas.List.{nil_from_length}
 use Rattle.handlebars_scope.specs.ScopeView.{bound_of}
-use Rattle.handlebars_scope.proofs.Variables.{get_by_text-empty, get_by_text-first}
+use Rattle.handlebars_scope.proofs.Maps.{get_by_text-empty, get_by_text-first}
 use Rattle.handlebars_scope.proofs.block.BlockParams.is_empty.Goals as goal
 
 pub returns-clause-none : goal.returns-clause-none

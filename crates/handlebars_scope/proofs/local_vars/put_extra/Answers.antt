@@ -1,7 +1,0 @@
-use Rattle.serde_json.specs.View.{view}
-use Rattle.handlebars_scope.proofs.Variables.{get_by_text-put}
-use Rattle.handlebars_scope.proofs.local_vars.put_extra.Goals as goal
-
-pub returns-clause-ok : goal.returns-clause-ok
-returns-clause-ok c = get_by_text-put view c.args.extra.now c.insert.new.self c.in_ok-name.name _ _
-    c.in_ok-name.ensures.ok c.in_ok-insert.ensures.updates
