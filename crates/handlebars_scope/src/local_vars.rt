@@ -65,8 +65,9 @@ impl LocalVars {
     pub fn clone(&self) -> Result<LocalVars, AllocError>
         ensures { IfOk result (λ copy. variables_of copy ≡ variables_of self.now) }
     {
+        let by_name = self.by_name.clone()?;
         Ok(LocalVars {
-            by_name: self.by_name.clone()?,
+            by_name,
             alloc: self.alloc,
         })
     }

@@ -5,5 +5,5 @@ use Rattle.handlebars_scope.proofs.block.BlockContext.with_variables_of.Goals as
 
 pub returns : goal.returns
 returns c =
-    ap (λ (f : Frame). record f { variable = variables_of c.copy.new.self }) c.new-copy.ensures
+    ap (λ (f : Frame). record f { variable = variables_of c.in_ok-copy.field-0 }) c.new-copy.ensures
     ∙ ap {B = Frame} (λ v. record empty_frame { variable = v }) c.in_ok-copy.ensures

@@ -4,5 +4,6 @@ use Rattle.handlebars_scope.proofs.local_vars.LocalVars.clone.Goals as goal
 
 pub returns : goal.returns
 returns c =
-    let all = λ (name : List ℕ). get_by_text-copied c.args.self.now.by_name _ c.in_ok-self.ensures.cases name in
+    let all = λ (name : List ℕ).
+    get_by_text-copied c.args.self.now.by_name c.in_ok-by_name.by_name c.in_ok-by_name.ensures.cases name in
     λ i name. all name i
