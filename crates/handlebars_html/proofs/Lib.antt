@@ -1,0 +1,27 @@
+pub mod Plans
+mod Programs
+mod Effects
+mod Targets
+mod Weaker
+mod Calls
+mod Inclusions
+pub mod Walk
+pub mod Demands
+mod Data
+mod Blanks
+mod Covers
+mod Pieces
+mod SameStates
+pub mod Safety
+pub mod Sample
+mod Examples
+mod StateLists
+mod CleanFindings
+mod Adding
+mod Accepts
+mod Refuses
+pub mod Rounds
+pub mod UsualParts
+pub mod FunctionRegistries
+mod CheckExamples
+mod BlockExamples

@@ -1,0 +1,110 @@
+-- A registry in which the check finds no fault has usual parts.
+use Rattle.std.proofs.Common.{◌≡◌, Bool, true, false, not, ◌||◌, List, [], ◌∷◌, ◌++◌, map, refl, sym, ap, ◌∙◌, subst, Some}
+use Rattle.std.specs.List.{AllByRecursion, flat_map, list_any}
+use Rattle.std.specs.Str.{bytes_eq}
+use Rattle.handlebars_base.specs.Bytes.{Text}
+use Rattle.handlebars_helpers.specs.Callee.{user}
+use Rattle.handlebars_helpers.specs.Escaping.{Escaping, for_html, for_plain, by_user}
+use Rattle.handlebars_semantics.specs.State.{Setting, hook}
+use Rattle.handlebars_html.specs.Ascii.{is_one_of}
+use Rattle.handlebars_html.specs.Usual.{GivesValues, HelperIs}
+use Rattle.handlebars_html.specs.Faults.{Why, helper_with_steps, user_hook, user_decorator, unless}
+use Rattle.handlebars_html.specs.Registry.{is_user_in, whys_of_escape, is_hook, whys_of_helper, HasUsualParts}
+use Rattle.handlebars_html.proofs.CleanFindings.{text-is, text-self}
+use Rattle.handlebars_html.proofs.StateLists.{true-false, not-true, All-map, empty-first, empty-later, empty-of_map, empty-of_flat, unless-true}
+
+escape-is : (e : Escaping) → whys_of_escape e ≡ [] → e ≡ for_html
+escape-is for_html none = refl
+escape-is for_plain none = cc
+escape-is by_user none = cc
+
+or-false : (x y : Bool) → (x || y) ≡ false → (x ≡ false) × (y ≡ false)
+or-false true y is = cc
+or-false false y is = (refl, is)
+
+-- what is said of each listed helper
+abbrev HasHelper : Setting → Text × Bool → Type 0
+HasHelper p x = (k : Text) × (p.parts.helper x.0 ≡ Some (user k)) × (x.1 ≡ true → GivesValues (p.parts.user k))
+
+-- A listed helper gives values and is no hook.
+abbrev IsPlain : Text × Bool → Type 0
+IsPlain x = (x.1 ≡ true) × (is_hook x.0 ≡ false)
+
+helper-plain : (x : Text × Bool) → whys_of_helper x ≡ [] → IsPlain x
+helper-plain x none = (
+  unless-true x.1 (helper_with_steps x.0)
+      (empty-first (unless x.1 (helper_with_steps x.0)) (unless (not (is_hook x.0)) (user_hook x.0)) none),
+  not-true (is_hook x.0) (unless-true (not (is_hook x.0)) (user_hook x.0)
+      (empty-later (unless x.1 (helper_with_steps x.0)) (unless (not (is_hook x.0)) (user_hook x.0)) none)),
+)
+
+abbrev is_listed : Text → List (Text × Bool) → Bool
+is_listed n xs = list_any (λ (x : Text × Bool). bytes_eq x.0 n) xs
+
+-- what holds of each listed helper holds of one of this name
+listed-has : (P : Text × Bool → Type 0) (xs : List (Text × Bool)) → AllByRecursion P xs → (n : Text) → is_listed n xs ≡ true
+    → (x : Text × Bool) × (x.0 ≡ n) × P x
+listed-has P [] all n is = cc
+listed-has P (x ∷ xs) all n is = by (bytes_eq x.0 n) (text-is x.0 n) is (listed-has P xs all.1 n)
+  where
+    by : (b : Bool) → (b ≡ true → x.0 ≡ n) → (b || is_listed n xs) ≡ true
+        → (is_listed n xs ≡ true → (y : Text × Bool) × (y.0 ≡ n) × P y) → (y : Text × Bool) × (y.0 ≡ n) × P y
+    by true to is rest = (x, to refl, all.0)
+    by false to is rest = rest is
+
+unlisted : (xs : List (Text × Bool)) → AllByRecursion IsPlain xs → (block : Bool) → is_listed (hook block) xs ≡ false
+unlisted xs all block = by (is_listed (hook block) xs) refl
+  where
+    no_hook : (block : Bool) (m : Text) → m ≡ hook block → is_hook m ≡ false → ⊥
+    no_hook true m same is =
+        true-false (sym (text-self (hook true)) ∙ ap (λ (z : Text). bytes_eq (hook true) z) (sym same)
+        ∙ (or-false (bytes_eq (hook false) m) (bytes_eq (hook true) m) is).1)
+    no_hook false m same is =
+        true-false (sym (text-self (hook false)) ∙ ap (λ (z : Text). bytes_eq (hook false) z) (sym same)
+        ∙ (or-false (bytes_eq (hook false) m) (bytes_eq (hook true) m) is).0)
+
+    by : (b : Bool) → is_listed (hook block) xs ≡ b → is_listed (hook block) xs ≡ false
+    by true e = let there = listed-has IsPlain xs all (hook block) e in absurd (no_hook block there.0.0 there.1 there.2.1)
+    by false e = e
+
+pub has_usual_parts : (p : Setting) → HasUsualParts p
+has_usual_parts p r lists none = (
+  lists.escape ∙ escape-is r.escape of_escape,
+  record {
+    helpers = λ n. helper n (is_user_in r n) refl;
+    hooks = unlisted r.helpers plain;
+    decorators = λ n. lists.other_decorators n (ap (λ (ds : List Text). is_one_of ds n) no_decorators);
+  },
+)
+  where
+    rest : List Why
+    rest = flat_map whys_of_helper r.helpers ++ map (λ n. user_decorator n) r.decorators
+
+    whys_none : whys_of_escape r.escape ++ rest ≡ []
+    whys_none = empty-of_map _ (whys_of_escape r.escape ++ rest) none
+
+    of_escape : whys_of_escape r.escape ≡ []
+    of_escape = empty-first (whys_of_escape r.escape) rest whys_none
+
+    rest_none : rest ≡ []
+    rest_none = empty-later (whys_of_escape r.escape) rest whys_none
+
+    plain : AllByRecursion IsPlain r.helpers
+    plain = All-map (λ x. whys_of_helper x ≡ []) IsPlain helper-plain r.helpers
+        (empty-of_flat whys_of_helper r.helpers
+        (empty-first (flat_map whys_of_helper r.helpers) (map (λ n. user_decorator n) r.decorators) rest_none))
+
+    no_decorators : r.decorators ≡ []
+    no_decorators = empty-of_map (λ n. user_decorator n) r.decorators
+        (empty-later (flat_map whys_of_helper r.helpers) (map (λ n. user_decorator n) r.decorators) rest_none)
+
+    both : (xs : List (Text × Bool)) → AllByRecursion (HasHelper p) xs → AllByRecursion IsPlain xs
+        → AllByRecursion (λ x. HelperIs p true x.0) xs
+    both [] all others = tt
+    both (x ∷ xs) all others = ((all.0.0, all.0.1, all.0.2 others.0.0), both xs all.1 others.1)
+
+    helper : (n : Text) (b : Bool) → is_user_in r n ≡ b → HelperIs p (is_user_in r n) n
+    helper n true e =
+        let there = listed-has (λ x. HelperIs p true x.0) r.helpers (both r.helpers lists.helpers plain) n e in
+        subst (λ (z : Bool). HelperIs p z n) (sym e) (subst (λ (z : Text). HelperIs p true z) there.1 there.2)
+    helper n false e = subst (λ (z : Bool). HelperIs p z n) (sym e) (lists.other_helpers n e)

@@ -1,0 +1,242 @@
+//! Whether two states are one.
+
+ghost use Rattle.std.specs.Prelude.{◌≡◌};
+ghost use Rattle.handlebars_html.specs.Same as same;
+ghost use Rattle.handlebars_html.specs.HtmlView.{attributes_view, content_view, context_of, foreign_of, html_of, plain_of, tag_view, tokenizer_of, value_of};
+
+use crate::address::Value;
+use crate::html::{Context, Foreign, Html};
+use crate::plain::Plain;
+use crate::tag::{Attributes, Content, Tag};
+use crate::tokenizer::Tokenizer;
+
+fn is_same_bool(x: bool, y: bool) -> bool
+    ensures { result ≡ same.is_same_bool x y }
+{
+    x == y
+}
+
+fn is_same_content(x: &Content, y: &Content) -> bool
+    ensures { result ≡ same.is_same_content (content_view x.now) (content_view y.now) }
+{
+    match (x, y) {
+        (Content::Markup, Content::Markup) => true,
+        (Content::InnerText(safe, name), Content::InnerText(other, text)) => {
+            is_same_bool(*safe, *other) && name.as_slice() == text.as_slice()
+        }
+        (Content::ScriptText, Content::ScriptText) => true,
+        (Content::SvgBegins, Content::SvgBegins) => true,
+        (Content::SvgEnds, Content::SvgEnds) => true,
+        (Content::HtmlInSvg, Content::HtmlInSvg) => true,
+        (Content::ForeignMarkup, Content::ForeignMarkup) => true,
+        (Content::NoscriptBegins, Content::NoscriptBegins) => true,
+        (Content::NoscriptEnds, Content::NoscriptEnds) => true,
+        (Content::Plaintext, Content::Plaintext) => true,
+        _ => false,
+    }
+}
+
+fn is_same_value(x: &Value, y: &Value) -> bool
+    ensures { result ≡ same.is_same_value (value_of x.now) (value_of y.now) }
+{
+    match (x, y) {
+        (Value::Harmless, Value::Harmless) => true,
+        (Value::Forbidden, Value::Forbidden) => true,
+        (Value::Followed(text), Value::Followed(other)) => text.as_slice() == other.as_slice(),
+        (Value::Loaded(text), Value::Loaded(other)) => text.as_slice() == other.as_slice(),
+        (Value::LoadedSlash, Value::LoadedSlash) => true,
+        (Value::LoadedAuthority, Value::LoadedAuthority) => true,
+        (Value::LoadedHost, Value::LoadedHost) => true,
+        _ => false,
+    }
+}
+
+fn is_same_attributes(x: Attributes, y: Attributes) -> bool
+    ensures { result ≡ same.is_same_attributes (attributes_view x) (attributes_view y) }
+{
+    match (x, y) {
+        (Attributes::Common, Attributes::Common) => true,
+        (Attributes::OfActive, Attributes::OfActive) => true,
+        (Attributes::OfShowing, Attributes::OfShowing) => true,
+        (Attributes::OfLoading, Attributes::OfLoading) => true,
+        (Attributes::OfMeta, Attributes::OfMeta) => true,
+        (Attributes::MetaContent, Attributes::MetaContent) => true,
+        (Attributes::MetaPragma, Attributes::MetaPragma) => true,
+        _ => false,
+    }
+}
+
+fn is_same_tag(x: &Tag, y: &Tag) -> bool
+    ensures { result ≡ same.is_same_tag (tag_view x.now) (tag_view y.now) }
+{
+    is_same_content(&x.content, &y.content) && is_same_attributes(x.attributes, y.attributes)
+}
+
+fn is_same_plain(x: Plain, y: Plain) -> bool
+    ensures { result ≡ same.is_same_tokenizer (plain_of x) (plain_of y) }
+{
+    match x {
+        Plain::Data => match y {
+            Plain::Data => true,
+            _ => false,
+        },
+        Plain::TagOpen => match y {
+            Plain::TagOpen => true,
+            _ => false,
+        },
+        Plain::EndTagOpen => match y {
+            Plain::EndTagOpen => true,
+            _ => false,
+        },
+        Plain::Declaration => match y {
+            Plain::Declaration => true,
+            _ => false,
+        },
+        Plain::DeclarationDash => match y {
+            Plain::DeclarationDash => true,
+            _ => false,
+        },
+        Plain::Bogus => match y {
+            Plain::Bogus => true,
+            _ => false,
+        },
+        Plain::CommentStart => match y {
+            Plain::CommentStart => true,
+            _ => false,
+        },
+        Plain::CommentStartDash => match y {
+            Plain::CommentStartDash => true,
+            _ => false,
+        },
+        Plain::Comment => match y {
+            Plain::Comment => true,
+            _ => false,
+        },
+        Plain::CommentDash => match y {
+            Plain::CommentDash => true,
+            _ => false,
+        },
+        Plain::CommentEnd => match y {
+            Plain::CommentEnd => true,
+            _ => false,
+        },
+        Plain::CommentBang => match y {
+            Plain::CommentBang => true,
+            _ => false,
+        },
+        Plain::CommentUnclear => match y {
+            Plain::CommentUnclear => true,
+            _ => false,
+        },
+        Plain::CommentUnclearDash => match y {
+            Plain::CommentUnclearDash => true,
+            _ => false,
+        },
+        Plain::Script => match y {
+            Plain::Script => true,
+            _ => false,
+        },
+        Plain::ScriptTagOpen => match y {
+            Plain::ScriptTagOpen => true,
+            _ => false,
+        },
+        Plain::TextEnd => match y {
+            Plain::TextEnd => true,
+            _ => false,
+        },
+        Plain::Late => match y {
+            Plain::Late => true,
+            _ => false,
+        },
+        Plain::Stuck => match y {
+            Plain::Stuck => true,
+            _ => false,
+        },
+    }
+}
+
+fn is_same_tokenizer(x: &Tokenizer, y: &Tokenizer) -> bool
+    ensures { result ≡ same.is_same_tokenizer (tokenizer_of x.now) (tokenizer_of y.now) }
+{
+    match x {
+        Tokenizer::Plain(plain) => match y {
+            Tokenizer::Plain(other) => is_same_plain(*plain, *other),
+            _ => false,
+        },
+        Tokenizer::TagName(ends, name) => match y {
+            Tokenizer::TagName(other, text) => is_same_bool(*ends, *other)
+                && name.as_slice() == text.as_slice(),
+            _ => false,
+        },
+        Tokenizer::BeforeAttribute(tag) => match y {
+            Tokenizer::BeforeAttribute(other) => is_same_tag(tag, other),
+            _ => false,
+        },
+        Tokenizer::AttributeName(tag, name) => match y {
+            Tokenizer::AttributeName(other, text) => is_same_tag(tag, other)
+                && name.as_slice() == text.as_slice(),
+            _ => false,
+        },
+        Tokenizer::AfterAttribute(tag, name) => match y {
+            Tokenizer::AfterAttribute(other, text) => is_same_tag(tag, other)
+                && name.as_slice() == text.as_slice(),
+            _ => false,
+        },
+        Tokenizer::BeforeValue(tag, value) => match y {
+            Tokenizer::BeforeValue(other, held) => is_same_tag(tag, other)
+                && is_same_value(value, held),
+            _ => false,
+        },
+        Tokenizer::Quoted(double, tag, value) => match y {
+            Tokenizer::Quoted(two, other, held) => is_same_bool(*double, *two)
+                && (is_same_tag(tag, other) && is_same_value(value, held)),
+            _ => false,
+        },
+        Tokenizer::Unquoted(tag) => match y {
+            Tokenizer::Unquoted(other) => is_same_tag(tag, other),
+            _ => false,
+        },
+        Tokenizer::InText(safe, name) => match y {
+            Tokenizer::InText(other, text) => is_same_bool(*safe, *other)
+                && name.as_slice() == text.as_slice(),
+            _ => false,
+        },
+        Tokenizer::TextTagOpen(safe, name) => match y {
+            Tokenizer::TextTagOpen(other, text) => is_same_bool(*safe, *other)
+                && name.as_slice() == text.as_slice(),
+            _ => false,
+        },
+        Tokenizer::TextEndName(rest) => match y {
+            Tokenizer::TextEndName(text) => rest.as_slice() == text.as_slice(),
+            _ => false,
+        },
+        Tokenizer::ScriptEndName(rest) => match y {
+            Tokenizer::ScriptEndName(text) => rest.as_slice() == text.as_slice(),
+            _ => false,
+        },
+    }
+}
+
+fn is_same_foreign(x: Foreign, y: Foreign) -> bool
+    ensures { result ≡ same.is_same_foreign (foreign_of x) (foreign_of y) }
+{
+    match (x, y) {
+        (Foreign::Outside, Foreign::Outside) => true,
+        (Foreign::InSvg, Foreign::InSvg) => true,
+        (Foreign::Anywhere, Foreign::Anywhere) => true,
+        _ => false,
+    }
+}
+
+fn is_same_context(x: Context, y: Context) -> bool
+    ensures { result ≡ same.is_same_context (context_of x) (context_of y) }
+{
+    is_same_bool(x.in_noscript, y.in_noscript) && is_same_foreign(x.foreign, y.foreign)
+}
+
+/// Returns whether two states are one.
+pub fn is_same(x: &Html, y: &Html) -> bool
+    ensures { result ≡ same.is_same (html_of x.now) (html_of y.now) }
+{
+    is_same_context(x.context, y.context) && is_same_tokenizer(&x.tokenizer, &y.tokenizer)
+}
