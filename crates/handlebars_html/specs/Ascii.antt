@@ -46,8 +46,3 @@ begins_query b = (b == question_mark) || (b == number_sign)
 abbrev pub is_one_of : List Text → Text → Bool
 is_one_of [] n = false
 is_one_of (x ∷ xs) n = bytes_eq x n || is_one_of xs n
-
-abbrev pub begins_with : Text → Text → Bool
-begins_with [] n = true
-begins_with (b ∷ bs) [] = false
-begins_with (b ∷ bs) (c ∷ cs) = (b == c) && begins_with bs cs

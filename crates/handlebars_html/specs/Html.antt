@@ -72,8 +72,8 @@ abbrev pub end_tag : Html → Option Tag → Html
 end_tag h None = record h { tokenizer = next h.tokenizer greater_than_sign }
 end_tag h (Some tag) = enter tag.content h.context
 
--- A `<` begins a tag here, or it begins the end tag of an element of text, whose name isn't `noscript`; or nothing more is said. Anywhere else the text
--- of a `noscript` could end at it, and the markup goes on.
+-- A `<` begins a tag here, or it begins the end tag of an element of text, whose name isn't `noscript`; or nothing more is
+-- said. Anywhere else the text of a `noscript` could end at it, and the markup goes on.
 abbrev pub begins_tag : Tokenizer → Bool
 begins_tag in_data = true
 begins_tag tag_open = true

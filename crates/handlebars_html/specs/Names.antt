@@ -1,8 +1,9 @@
 -- Names of elements and of attributes, in lowercase, and what they say of the data within them. A name that is in no table
 -- takes no data.
-use Rattle.std.specs.Prelude.{Bool, ◌||◌, List, [], ◌∷◌, codes}
+use Rattle.std.specs.Prelude.{Bool, ◌==◌, ◌||◌, List, [], ◌∷◌, codes}
+use Rattle.std.specs.List.{starts_with}
 use Rattle.handlebars_base.specs.Bytes.{Text}
-use Rattle.handlebars_html.specs.Ascii.{is_one_of, begins_with}
+use Rattle.handlebars_html.specs.Ascii.{is_one_of}
 
 -- ---- elements
 
@@ -75,7 +76,7 @@ passive_attributes = codes "class" ∷ codes "dir" ∷ codes "id" ∷ codes "lan
 
 -- an attribute that a page defines (HTML 3.2.6.6), or one for assistive technology (WAI-ARIA): no browser runs it
 abbrev pub is_custom_attribute : Text → Bool
-is_custom_attribute n = begins_with (codes "data-") n || begins_with (codes "aria-") n
+is_custom_attribute n = starts_with ◌==◌ n (codes "data-") || starts_with ◌==◌ n (codes "aria-")
 
 abbrev pub is_harmless_attribute : Text → Bool
 is_harmless_attribute n = is_one_of harmless_attributes n || (is_one_of drawing_attributes n || is_custom_attribute n)

@@ -16,8 +16,8 @@ use Rattle.handlebars_html.specs.Usual.{IsUsual, IsClosed}
 -- ---- the rule
 
 -- The states are those of HTML. A text may stand anywhere where a blank before it makes no difference, since an indentation
--- may come before it, and where it changes nothing of what an attribute with data means. A value stands where data may, and is escaped. Indentations are blank. A block is captured from markup
--- to markup.
+-- may come before it, and where it changes nothing of what an attribute with data means. A value stands where data may, and is
+-- escaped. Indentations are blank. A block is captured from markup to markup.
 abbrev pub html_rule : Rule
 html_rule = record {
   Known = Html;

@@ -5,6 +5,82 @@ ghost use Rattle.std.specs.Str.{bytes_eq};
 ghost use Rattle.handlebars_html.specs.Ascii as ascii;
 ghost use Rattle.handlebars_html.specs.Names as names;
 
+const HARMLESS_ATTRIBUTES: [&str; 73] = [
+    "abbr",
+    "accept",
+    "accesskey",
+    "align",
+    "alt",
+    "autocomplete",
+    "autofocus",
+    "bgcolor",
+    "border",
+    "checked",
+    "class",
+    "color",
+    "cols",
+    "colspan",
+    "coords",
+    "datetime",
+    "dir",
+    "disabled",
+    "download",
+    "draggable",
+    "enterkeyhint",
+    "for",
+    "form",
+    "headers",
+    "height",
+    "hidden",
+    "high",
+    "hreflang",
+    "id",
+    "inputmode",
+    "itemprop",
+    "kind",
+    "label",
+    "lang",
+    "list",
+    "loading",
+    "low",
+    "max",
+    "maxlength",
+    "media",
+    "min",
+    "minlength",
+    "multiple",
+    "name",
+    "nonce",
+    "open",
+    "optimum",
+    "pattern",
+    "placeholder",
+    "readonly",
+    "rel",
+    "required",
+    "reversed",
+    "role",
+    "rows",
+    "rowspan",
+    "scope",
+    "selected",
+    "size",
+    "span",
+    "spellcheck",
+    "srclang",
+    "start",
+    "step",
+    "summary",
+    "tabindex",
+    "title",
+    "translate",
+    "type",
+    "valign",
+    "value",
+    "width",
+    "wrap",
+];
+
 /// Returns whether the name is one of these.
 pub fn is_one_of(names: &[&str], name: &[u8]) -> bool
     ensures { result ≡ ascii.is_one_of (map (λ n. n.now) names.now) name.now }
@@ -12,19 +88,6 @@ pub fn is_one_of(names: &[&str], name: &[u8]) -> bool
     match names.split_first() {
         None => false,
         Some((first, rest)) => first.as_bytes() == name || is_one_of(rest, name),
-    }
-}
-
-/// Returns whether the text begins with the prefix.
-pub fn begins_with(prefix: &[u8], text: &[u8]) -> bool
-    ensures { result ≡ ascii.begins_with prefix.now text.now }
-{
-    match prefix.split_first() {
-        None => true,
-        Some((first, rest)) => match text.split_first() {
-            None => false,
-            Some((byte, others)) => *first == *byte && begins_with(rest, others),
-        },
     }
 }
 
@@ -98,84 +161,7 @@ pub fn is_showing_element(name: &[u8]) -> bool
 fn is_harmless_name(name: &[u8]) -> bool
     ensures { result ≡ ascii.is_one_of names.harmless_attributes name.now }
 {
-    is_one_of(
-        &[
-            "abbr",
-            "accept",
-            "accesskey",
-            "align",
-            "alt",
-            "autocomplete",
-            "autofocus",
-            "bgcolor",
-            "border",
-            "checked",
-            "class",
-            "color",
-            "cols",
-            "colspan",
-            "coords",
-            "datetime",
-            "dir",
-            "disabled",
-            "download",
-            "draggable",
-            "enterkeyhint",
-            "for",
-            "form",
-            "headers",
-            "height",
-            "hidden",
-            "high",
-            "hreflang",
-            "id",
-            "inputmode",
-            "itemprop",
-            "kind",
-            "label",
-            "lang",
-            "list",
-            "loading",
-            "low",
-            "max",
-            "maxlength",
-            "media",
-            "min",
-            "minlength",
-            "multiple",
-            "name",
-            "nonce",
-            "open",
-            "optimum",
-            "pattern",
-            "placeholder",
-            "readonly",
-            "rel",
-            "required",
-            "reversed",
-            "role",
-            "rows",
-            "rowspan",
-            "scope",
-            "selected",
-            "size",
-            "span",
-            "spellcheck",
-            "srclang",
-            "start",
-            "step",
-            "summary",
-            "tabindex",
-            "title",
-            "translate",
-            "type",
-            "valign",
-            "value",
-            "width",
-            "wrap",
-        ],
-        name,
-    )
+    is_one_of(&HARMLESS_ATTRIBUTES, name)
 }
 
 fn is_drawing_attribute(name: &[u8]) -> bool
@@ -208,7 +194,7 @@ fn is_drawing_attribute(name: &[u8]) -> bool
 fn is_custom_attribute(name: &[u8]) -> bool
     ensures { result ≡ names.is_custom_attribute name.now }
 {
-    begins_with("data-".as_bytes(), name) || begins_with("aria-".as_bytes(), name)
+    name.starts_with("data-".as_bytes()) || name.starts_with("aria-".as_bytes())
 }
 
 /// Returns whether any text may stand in an attribute of this name.

@@ -76,82 +76,25 @@ fn is_same_plain(x: Plain, y: Plain) -> bool
     ensures { result ≡ same.is_same_tokenizer (plain_of x) (plain_of y) }
 {
     match x {
-        Plain::Data => match y {
-            Plain::Data => true,
-            _ => false,
-        },
-        Plain::TagOpen => match y {
-            Plain::TagOpen => true,
-            _ => false,
-        },
-        Plain::EndTagOpen => match y {
-            Plain::EndTagOpen => true,
-            _ => false,
-        },
-        Plain::Declaration => match y {
-            Plain::Declaration => true,
-            _ => false,
-        },
-        Plain::DeclarationDash => match y {
-            Plain::DeclarationDash => true,
-            _ => false,
-        },
-        Plain::Bogus => match y {
-            Plain::Bogus => true,
-            _ => false,
-        },
-        Plain::CommentStart => match y {
-            Plain::CommentStart => true,
-            _ => false,
-        },
-        Plain::CommentStartDash => match y {
-            Plain::CommentStartDash => true,
-            _ => false,
-        },
-        Plain::Comment => match y {
-            Plain::Comment => true,
-            _ => false,
-        },
-        Plain::CommentDash => match y {
-            Plain::CommentDash => true,
-            _ => false,
-        },
-        Plain::CommentEnd => match y {
-            Plain::CommentEnd => true,
-            _ => false,
-        },
-        Plain::CommentBang => match y {
-            Plain::CommentBang => true,
-            _ => false,
-        },
-        Plain::CommentUnclear => match y {
-            Plain::CommentUnclear => true,
-            _ => false,
-        },
-        Plain::CommentUnclearDash => match y {
-            Plain::CommentUnclearDash => true,
-            _ => false,
-        },
-        Plain::Script => match y {
-            Plain::Script => true,
-            _ => false,
-        },
-        Plain::ScriptTagOpen => match y {
-            Plain::ScriptTagOpen => true,
-            _ => false,
-        },
-        Plain::TextEnd => match y {
-            Plain::TextEnd => true,
-            _ => false,
-        },
-        Plain::Late => match y {
-            Plain::Late => true,
-            _ => false,
-        },
-        Plain::Stuck => match y {
-            Plain::Stuck => true,
-            _ => false,
-        },
+        Plain::Data => matches!(y, Plain::Data),
+        Plain::TagOpen => matches!(y, Plain::TagOpen),
+        Plain::EndTagOpen => matches!(y, Plain::EndTagOpen),
+        Plain::Declaration => matches!(y, Plain::Declaration),
+        Plain::DeclarationDash => matches!(y, Plain::DeclarationDash),
+        Plain::Bogus => matches!(y, Plain::Bogus),
+        Plain::CommentStart => matches!(y, Plain::CommentStart),
+        Plain::CommentStartDash => matches!(y, Plain::CommentStartDash),
+        Plain::Comment => matches!(y, Plain::Comment),
+        Plain::CommentDash => matches!(y, Plain::CommentDash),
+        Plain::CommentEnd => matches!(y, Plain::CommentEnd),
+        Plain::CommentBang => matches!(y, Plain::CommentBang),
+        Plain::CommentUnclear => matches!(y, Plain::CommentUnclear),
+        Plain::CommentUnclearDash => matches!(y, Plain::CommentUnclearDash),
+        Plain::Script => matches!(y, Plain::Script),
+        Plain::ScriptTagOpen => matches!(y, Plain::ScriptTagOpen),
+        Plain::TextEnd => matches!(y, Plain::TextEnd),
+        Plain::Late => matches!(y, Plain::Late),
+        Plain::Stuck => matches!(y, Plain::Stuck),
     }
 }
 
