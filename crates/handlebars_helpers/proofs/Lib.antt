@@ -6,3 +6,4 @@ mod FirstEntries
 mod Decorations
 mod Failed
 mod OneAnswer
+mod Named

@@ -1,7 +1,7 @@
 -- What user-defined helpers are asked, and what they answer.
-use Rattle.std.specs.Prelude.{◌≡◌, Bool, List, Option}
+use Rattle.std.specs.Prelude.{◌≡◌, Bool, List, Option, Some}
 use Rattle.serde_json.specs.Data.{Data}
-use Rattle.handlebars_base.specs.Answers.{Answer, fails_for}
+use Rattle.handlebars_base.specs.Answers.{Answer, gives, fails_for}
 use Rattle.handlebars_base.specs.Bytes.{Text}
 use Rattle.handlebars_base.specs.Reasons.{helper_not_found}
 use Rattle.handlebars_scope.specs.Scopes.{Frame}
@@ -41,6 +41,10 @@ HasOne {A = A} has = (x y : Answer A) → has x → has y → ∥ x ≡ y ∥₁
 pub record AnswersOnce (user : UserHelper) : Type 0 where
   pub steps : (q : HelperQuestion) → HasOne (user.has_steps q)
   pub offer : (q : HelperQuestion) → HasOne (user.has_offer q)
+
+-- A user-defined helper has no steps, and so writes nothing but the value that it offers.
+abbrev pub GivesValues : UserHelper → Type 0
+GivesValues helper = (q : HelperQuestion) (steps : List Step) → helper.has_steps q (gives (Some steps)) → ⊥
 
 -- the helper if no user-defined one has the name
 abbrev pub no_user_helper : Text → UserHelper

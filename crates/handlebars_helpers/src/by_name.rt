@@ -1,12 +1,13 @@
 //! Entries by name.
 
-ghost use Rattle.std.specs.Prelude.{◌≡◌, ◌<◌, None, OnErr, OnOk, Some, is_some, length, option_map, string_bytes, true};
+ghost use Rattle.std.specs.Prelude.{◌≡◌, ◌<◌, IfOk, None, OnErr, OnOk, Some, is_some, length, option_map, string_bytes, true};
+ghost use Rattle.std.specs.BTreeSet.{contains_text};
 ghost use Rattle.std.specs.HashMap.{get_by_text};
 ghost use Rattle.handlebars_base.specs.Bytes.{Text};
 ghost use Rattle.handlebars_helpers.specs.Marks.{is_marked, bucket_of};
 
 use std::alloc::{AllocError, Global};
-use std::collections::HashMap;
+use std::collections::{BTreeSet, HashMap};
 
 /// Entries by name, of helpers or of decorators. A rendering looks up a helper for each name that it reaches, which takes
 /// constant time on average. Most names have none. The marks usually show that without a hash of the name.
@@ -48,6 +49,21 @@ impl<E: Drop> ByName<E> {
         ensures { option_map (λ entry. entry.now) result ≡ entry_at self.now name.now }
     {
         self.by_name.get(name)
+    }
+
+    /// Returns all names that have an entry.
+    ///
+    /// # Errors
+    ///
+    /// Returns `AllocError` if memory runs out.
+    pub fn names(&self, alloc: Global) -> Result<BTreeSet<String>, AllocError>
+        ensures { IfOk result (λ names. (name : Text) → contains_text names name ≡ is_some (entry_at self.now name)) }
+    {
+        let mut names = BTreeSet::new(alloc);
+        'entries: for (name, _) in &self.by_name {
+            names.insert(name.clone()?)?;
+        }
+        Ok(names)
     }
 
     /// Inserts an entry under a name, and replaces the one that was there.

@@ -1,6 +1,8 @@
 //! What is registered under names, and the calls to it.
 
-ghost use Rattle.std.specs.Prelude.{◌≡◌, IfOk, option_map, string_bytes};
+ghost use Rattle.std.specs.BTreeSet.{contains_text};
+ghost use Rattle.std.specs.Bool.{OnTrue};
+ghost use Rattle.std.specs.Prelude.{◌≡◌, IfOk, is_some, option_map, string_bytes};
 ghost use Rattle.handlebars_base.specs.Answers.{IsRefusal};
 ghost use Rattle.handlebars_base.specs.Bytes.{Text};
 ghost use Rattle.handlebars_base.specs.Reasons.{decorator_not_found, helper_not_found};
@@ -12,6 +14,7 @@ ghost use Rattle.handlebars_helpers.specs.EntriesView.{user_answers, registered_
 ghost use Rattle.handlebars_helpers.specs.EscapeView.{escaping_of};
 ghost use Rattle.handlebars_helpers.specs.Escaping.{for_html};
 ghost use Rattle.handlebars_helpers.specs.UserAnswers.{HaveOne, UserAnswers, Registrations};
+ghost use Rattle.handlebars_helpers.specs.UserHelper.{GivesValues};
 ghost use Rattle.handlebars_helpers.specs.UserView.{IsOneOf, helper_question_of, callee_of, offer_of, steps_of};
 
 use crate::by_name::ByName;
@@ -32,6 +35,7 @@ use handlebars_base::error::{RenderError, RenderErrorReason};
 use handlebars_base::support::escape_html;
 use handlebars_scope::context::Context;
 use std::alloc::{AllocError, Global};
+use std::collections::BTreeSet;
 
 /// Entries of helpers and of decorators by name, and how values are escaped.
 #[derive(Drop)]
@@ -95,6 +99,26 @@ pub trait UserParts: Drop {
     /// Returns the decorator under a name, if there is one.
     fn decorator(&self, name: &str) -> Option<DecoratorKind>
         ensures { option_map (decorator_called name.now) result ≡ (registered self.now).decorator name.now };
+
+    /// Returns the names under which helpers are registered.
+    ///
+    /// # Errors
+    ///
+    /// Returns `AllocError` if memory runs out.
+    fn helper_names(&self) -> Result<BTreeSet<String>, AllocError>
+        ensures { IfOk result (λ names. (name : Text) → contains_text names name ≡ is_some ((registered self.now).helper name)) };
+
+    /// Returns the names under which decorators are registered.
+    ///
+    /// # Errors
+    ///
+    /// Returns `AllocError` if memory runs out.
+    fn decorator_names(&self) -> Result<BTreeSet<String>, AllocError>
+        ensures { IfOk result (λ names. (name : Text) → contains_text names name ≡ is_some ((registered self.now).decorator name)) };
+
+    /// Returns whether the user-defined helper under a name is known to give values alone.
+    fn gives_values(&self, name: &str) -> bool
+        ensures { OnTrue result (GivesValues ((user self.now).helper name.now)) };
 
     /// Returns how values are escaped.
     fn escape(&self) -> Escaping
@@ -179,6 +203,7 @@ impl<B: HelperPart, F: HelperPart, D: DecoratorPart, G: DecoratorPart, X: Escape
             Some(HelperEntryOf::Built(kind)) => Some(Callee::Built(*kind)),
             Some(HelperEntryOf::Own(_)) => Some(Callee::User),
             Some(HelperEntryOf::Function(_)) => Some(Callee::User),
+            Some(HelperEntryOf::Value(_)) => Some(Callee::User),
             None => None,
         }
     }
@@ -189,6 +214,24 @@ impl<B: HelperPart, F: HelperPart, D: DecoratorPart, G: DecoratorPart, X: Escape
             Some(DecoratorEntryOf::Own(_)) => Some(DecoratorKind::User),
             Some(DecoratorEntryOf::Function(_)) => Some(DecoratorKind::User),
             None => None,
+        }
+    }
+
+    fn helper_names(&self) -> Result<BTreeSet<String>, AllocError> {
+        self.helpers.names(self.alloc)
+    }
+
+    fn decorator_names(&self) -> Result<BTreeSet<String>, AllocError> {
+        self.decorators.names(self.alloc)
+    }
+
+    fn gives_values(&self, name: &str) -> bool {
+        match self.helpers.get(name) {
+            Some(HelperEntryOf::Value(_)) => true,
+            Some(HelperEntryOf::Own(_)) => false,
+            Some(HelperEntryOf::Function(_)) => false,
+            Some(HelperEntryOf::Built(_)) => false,
+            None => false,
         }
     }
 
@@ -207,6 +250,7 @@ impl<B: HelperPart, F: HelperPart, D: DecoratorPart, G: DecoratorPart, X: Escape
         match self.helpers.get(name) {
             Some(HelperEntryOf::Own(def)) => def.steps(h, given, changed, strict),
             Some(HelperEntryOf::Function(f)) => f.steps(h, given, changed, strict),
+            Some(HelperEntryOf::Value(_)) => Ok(None),
             Some(HelperEntryOf::Built(_)) => Err(no_helper(self.alloc, name)),
             None => Err(no_helper(self.alloc, name)),
         }
@@ -223,6 +267,7 @@ impl<B: HelperPart, F: HelperPart, D: DecoratorPart, G: DecoratorPart, X: Escape
         match self.helpers.get(name) {
             Some(HelperEntryOf::Own(def)) => def.offer(h, given, changed, strict),
             Some(HelperEntryOf::Function(f)) => f.offer(h, given, changed, strict),
+            Some(HelperEntryOf::Value(def)) => def.offer(h, given, changed, strict),
             Some(HelperEntryOf::Built(_)) => Err(no_helper(self.alloc, name)),
             None => Err(no_helper(self.alloc, name)),
         }

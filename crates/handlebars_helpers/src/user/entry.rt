@@ -22,6 +22,8 @@ pub enum HelperEntryOf<B, F> {
     Own(B),
     /// A function that is a helper.
     Function(F),
+    /// A user-defined helper that is asked for its value alone. Its `call` is never called, so it writes nothing else.
+    Value(B),
 }
 
 /// What is registered under a helper's name.
