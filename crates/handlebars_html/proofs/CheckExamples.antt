@@ -3,6 +3,7 @@ use Rattle.std.proofs.Common.{◌≡◌, ℕ, Bool, true, false, List, [], ◌�
 use Rattle.serde_json.specs.Data.{string}
 use Rattle.handlebars_base.specs.Bytes.{Text}
 use Rattle.handlebars_template.specs.Tree.{Tree, tree, elements_of, Element, raw_string, html_expression, escaped_expression, helper_block, decorator_block, partial_expression, partial_block, comment, call, decorator, args, no_arguments, Param, name, literal, subexpression, no_params, param, no_hash, no_binding, bodies, Body, no_body, body, CallMarks, DecoratorMarks}
+use Rattle.handlebars_helpers.specs.Escaping.{for_html}
 use Rattle.handlebars_html.specs.Addresses.{forbidden, followed}
 use Rattle.handlebars_html.specs.Tags.{Tag, markup, common}
 use Rattle.handlebars_html.specs.Tokenizer.{Tokenizer, tag_name, before_attribute, attribute_name, quoted, in_script, next}
@@ -10,7 +11,8 @@ use Rattle.handlebars_html.specs.Html.{Html, beginning, step, is_blank}
 use Rattle.handlebars_html.specs.Same.{is_same_tokenizer}
 use Rattle.handlebars_html.specs.Sample.{x_value}
 use Rattle.handlebars_html.specs.Faults.{Why, unsafe_value, unread_value, unescaped_value, changed_text, late_attribute, changed_by_iteration, changed_by_block, captured_text_in, made_inclusion, made_block, other_indent, expression_bodies, Fault}
-use Rattle.handlebars_html.specs.Search.{accepts, searched, faults_after}
+use Rattle.handlebars_html.specs.Registry.{UserDefined}
+use Rattle.handlebars_html.specs.Search.{source, accepts, searched, faults_after}
 
 -- ---- templates
 
@@ -56,15 +58,16 @@ captured_text = include (codes "@partial-block")
 
 -- ---- what the check says
 
-abbrev no_user : Text → Bool
-no_user n = false
+-- nothing is user-defined
+abbrev first_parts : UserDefined
+first_parts = record { escape = for_html; helpers = []; decorators = [] }
 
 -- The rows that so many rounds find are accepted.
 abbrev is_accepted : ℕ → List (Text × Tree) → Tree → Bool
-is_accepted n templates t = accepts no_user (searched no_user templates None t n) templates None t
+is_accepted n templates t = accepts first_parts templates (source t) (searched first_parts templates (source t) n)
 
 abbrev faults : ℕ → List (Text × Tree) → Tree → List Fault
-faults n templates t = faults_after no_user templates None t n
+faults n templates t = faults_after first_parts templates (source t) n
 
 -- a fault of the template itself, in this column; and one of the template of this name
 abbrev fault : ℕ → Why → Fault

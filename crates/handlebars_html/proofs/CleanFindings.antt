@@ -10,8 +10,9 @@ use Rattle.handlebars_html.specs.Same.{is_same}
 use Rattle.handlebars_html.specs.Rule.{Table, IsNamed}
 use Rattle.handlebars_html.specs.Safety.{html_rule}
 use Rattle.handlebars_html.specs.Rows.{Row, entering, leaving, is_at, has_entering, leaving_states, has_row, with_row, with_rows, leavings, table_of, IsInTable}
-use Rattle.handlebars_html.specs.Faults.{Why, faults_at}
-use Rattle.handlebars_html.specs.Check.{Findings, both_findings, found_faults, findings_of_each, Ends, ends_in, found_before, either_ends, may_name, findings_of_entering, findings_of_entered}
+use Rattle.handlebars_html.specs.Faults.{Why, Fault, faults_at, with_faults}
+use Rattle.handlebars_html.specs.Check.{Findings, both_findings, found_faults, each_once, findings_of_each, Ends, ends_in, found_before, either_ends, may_name, findings_of_entering, findings_of_entered}
+use Rattle.handlebars_html.proofs.Adding.{with_faults-none}
 use Rattle.handlebars_html.proofs.StateLists.{by_both, same-is, All-first, All-later, All-append, All-of_map, All-to_map, empty-first, empty-later, empty-append, empty-of_map, with_states-has, with_states-all}
 
 -- No fault is found, and the table has the rows.
@@ -50,6 +51,12 @@ module _ (table : Table html_rule) where
     rows = All-append (IsInTable table) x.rows y.rows first.rows later.rows;
     faults = empty-append x.faults y.faults first.faults later.faults;
   }
+
+  pub clean-once : (x : Findings) → IsClean table (each_once x) → IsClean table x
+  clean-once x clean = record { rows = clean.rows; faults = with_faults-none x.faults clean.faults }
+
+  pub once-clean : (x : Findings) → IsClean table x → IsClean table (each_once x)
+  once-clean x clean = record { rows = clean.rows; faults = ap (λ (xs : List Fault). with_faults [] xs) clean.faults }
 
   pub clean-of_each : (f : Html → Findings) (hs : List Html) → IsClean table (findings_of_each f hs)
       → AllByRecursion (λ h. IsClean table (f h)) hs

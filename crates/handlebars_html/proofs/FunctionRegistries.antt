@@ -5,10 +5,8 @@ use Rattle.std.specs.Str.{bytes_eq}
 use Rattle.std.proofs.lemmas.List.Elements.{Contains-append_right}
 use Rattle.handlebars_base.specs.Bytes.{Text}
 use Rattle.handlebars_template.specs.Tree.{Tree}
-use Rattle.handlebars_html.specs.Registry.{is_user_in}
 use Rattle.handlebars_html.specs.Functions.{template_in, setting_of, CheckedKeepDataSafe}
 use Rattle.handlebars_html.proofs.CleanFindings.{text-is}
-use Rattle.handlebars_html.proofs.UsualParts.{has_usual_parts}
 use Rattle.handlebars_html.proofs.Rounds.{accepted_keep_data_safe}
 
 template_in-contained : (xs : List (Text × Tree)) (n : Text) (t : Tree) → template_in xs n ≡ Some t → Contains xs (n, t)
@@ -25,7 +23,6 @@ template_in-contained (x ∷ xs) n t is = by (bytes_eq x.0 n) (text-is x.0 n) is
     by false to is rest = Contains-append_right (x ∷ []) xs (n, t) (rest is)
 
 pub checked_keep_data_safe : CheckedKeepDataSafe
-checked_keep_data_safe r d u lists none name t verdict =
-    let usual = has_usual_parts (setting_of r d) u lists none in
-    accepted_keep_data_safe (setting_of r d) usual.0 (is_user_in u) usual.1 r.templates name t verdict.0
-    (λ n h enters x is. template_in-contained r.templates n x is) verdict.1
+checked_keep_data_safe r d u lists pages verdict t page =
+    accepted_keep_data_safe (setting_of r d) u lists r.templates (λ n x is. template_in-contained r.templates n x is) pages verdict
+    t page

@@ -18,9 +18,18 @@ mod Examples
 mod StateLists
 mod CleanFindings
 mod Adding
+mod FoundSoFar
+mod TextEnds
+mod NamedEnds
+mod TreeEnds
+mod Searching
+mod Appended
+mod Listed
 mod Accepts
 mod Refuses
 pub mod Rounds
+pub mod CheckedAnswers
+mod NeededRows
 pub mod UsualParts
 pub mod FunctionRegistries
 mod CheckExamples

@@ -1,6 +1,6 @@
 -- Rounds of the check: what is accepted is closed and keeps data safe; and if all leads as the rule has it by some table, then no
 -- round finds a fault.
-use Rattle.std.proofs.Common.{◌≡◌, ℕ, zero, suc, Bool, true, false, ◌&&◌, if◌then◌else◌, List, [], ◌∷◌, refl, sym, ap, ◌∙◌, subst, Option, Some, arith}
+use Rattle.std.proofs.Common.{◌≡◌, ℕ, zero, suc, Bool, true, false, ◌&&◌, if◌then◌else◌, List, [], ◌∷◌, refl, sym, ap, ◌∙◌, subst, Option, Some, None, arith}
 use Rattle.std.specs.List.{list_all, AllByRecursion, Contains}
 use Rattle.std.specs.Str.{bytes_eq}
 use Rattle.std.proofs.lemmas.List.Elements.{All-from_recursion, All-contains, Contains-append_right}
@@ -9,16 +9,22 @@ use Rattle.handlebars_template.specs.Tree.{Tree}
 use Rattle.handlebars_semantics.specs.State.{Setting}
 use Rattle.handlebars_html.specs.Html.{Html, beginning}
 use Rattle.handlebars_html.specs.Rule.{Table, Leads}
+use Rattle.handlebars_html.specs.Usual.{IsClosed}
 use Rattle.handlebars_html.specs.Safety.{html_rule}
 use Rattle.handlebars_html.specs.Rows.{Row, entering, leaving, has_entering, has_row, with_rows, table_of, IsInTable}
-use Rattle.handlebars_html.specs.Faults.{Fault, with_faults}
-use Rattle.handlebars_html.specs.Check.{ends_in, findings_of_entering, tree_ends}
-use Rattle.handlebars_html.specs.Search.{template_findings, templates_findings, round, has_none, accepts, searched, faults_by, faults_after, AreNeeded, IsRightToAccept, AcceptedKeepDataSafe, IsRightToRefuse, AcceptedHaveNoFaults}
+use Rattle.handlebars_html.specs.Faults.{Fault}
+use Rattle.handlebars_html.specs.Registry.{UserDefined, is_user_in, faults_of_registry}
+use Rattle.handlebars_html.specs.Check.{Ends, ends_in, each_once, both_findings, found_faults, findings_of_entering, tree_ends}
+use Rattle.handlebars_html.specs.Search.{Pages, source, all_templates, pages_findings, template_findings, templates_findings, round, has_none, accepts, searched, faults_by, AreNeeded, IsVerdict, verdict_in, PagesLead, AreAll, IsPage, IsRightToAccept, AcceptedKeepDataSafe, IsRightToRefuse, AcceptedHaveNoFaults}
+use Rattle.handlebars_html.specs.FoundView.{with_missing}
 use Rattle.handlebars_html.proofs.Accepts.{tree-leads}
-use Rattle.handlebars_html.proofs.CleanFindings.{IsClean, IsFine, text-is, text-self, clean-first, clean-later, clean-both, entering-to_clean, entered-of_clean, entered-to_clean, fine-states, entering-known, has_row-is, with_rows-all}
+use Rattle.handlebars_html.proofs.Adding.{with_missing-all, with_missing-none, accepts-none}
+use Rattle.handlebars_html.proofs.CleanFindings.{IsClean, IsFine, text-is, text-self, clean-first, clean-later, clean-both, clean-once, once-clean, entering-to_clean, entered-of_clean, entered-to_clean, fine-states, entering-known, has_row-is, with_rows-all}
 use Rattle.handlebars_html.proofs.Refuses.{tree-fine}
 use Rattle.handlebars_html.proofs.Safety.{data_stands_safely}
-use Rattle.handlebars_html.proofs.StateLists.{true-false, by_both, All-each, All-of_test}
+use Rattle.handlebars_html.proofs.StateLists.{true-false, by_both, All-each, All-first, All-of_map, All-to_map, All-of_test}
+use Rattle.handlebars_html.proofs.UsualParts.{has_usual_parts}
+use Rattle.handlebars_html.proofs.Weaker.{Leads-weaker}
 
 -- A template leads as the table has it for its name.
 abbrev LeadsByTable : Table html_rule → Text × Tree → Type 0
@@ -29,124 +35,168 @@ All-has P [] to = tt
 All-has P (x ∷ xs) to =
     (to x (0, omega arith, refl), All-has P xs (λ y has. to y (Contains-append_right (x ∷ []) xs y has)))
 
+none-empty : (xs : List Fault) → has_none xs ≡ true → xs ≡ []
+none-empty [] is = refl
+none-empty (x ∷ xs) is = cc
+
+abbrev is_some_fault : List Fault → Bool
+is_some_fault [] = false
+is_some_fault (x ∷ xs) = true
+
 -- ---- right to accept
 
-module _ (is_user : Text → Bool) (rows : List Row) where
+module _ (u : UserDefined) (rows : List Row) where
   abbrev table : Table html_rule
-  table = table_of is_user rows
+  table = table_of (is_user_in u) rows
 
-  template-leads : (x : Text × Tree) → IsClean table (template_findings is_user rows x) → LeadsByTable table x
+  abbrev read : Text × Tree → Text → Html → Ends
+  read x n h = if bytes_eq n x.0 then tree_ends (is_user_in u) rows (Some x.0) x.1 (h ∷ []) else ends_in []
+
+  template-leads : (x : Text × Tree) → IsClean table (template_findings u rows x) → LeadsByTable table x
   template-leads x clean h enters =
-      (tree-leads is_user rows (Some x.0) x.1 (h ∷ []) (table.leaves x.0 h)
-      (of_name (bytes_eq x.0 x.0) (text-self x.0)
-      (entered-of_clean table rows
-      (λ n h. if bytes_eq n x.0 then tree_ends is_user rows (Some x.0) x.1 (h ∷ []) else ends_in []) clean x.0 h enters))).0
+      (tree-leads (is_user_in u) rows (Some x.0) x.1 (h ∷ []) (table.leaves x.0 h)
+      (of_name (bytes_eq x.0 x.0) (text-self x.0) (entered-of_clean table rows (read x) clean x.0 h enters))).0
     where
       of_name : (z : Bool) → z ≡ true
-          → IsFine table (table.leaves x.0 h) (if z then tree_ends is_user rows (Some x.0) x.1 (h ∷ []) else ends_in [])
-          → IsFine table (table.leaves x.0 h) (tree_ends is_user rows (Some x.0) x.1 (h ∷ []))
+          → IsFine table (table.leaves x.0 h) (if z then tree_ends (is_user_in u) rows (Some x.0) x.1 (h ∷ []) else ends_in [])
+          → IsFine table (table.leaves x.0 h) (tree_ends (is_user_in u) rows (Some x.0) x.1 (h ∷ []))
       of_name true e fine = fine
       of_name false e fine = true-false (sym e)
 
-  templates-lead : (xs : List (Text × Tree)) → IsClean table (templates_findings is_user rows xs)
+  templates-lead : (xs : List (Text × Tree)) → IsClean table (templates_findings u rows xs)
       → AllByRecursion (LeadsByTable table) xs
   templates-lead [] clean = tt
   templates-lead (x ∷ xs) clean = (
-    template-leads x (clean-first table (template_findings is_user rows x) (templates_findings is_user rows xs) clean),
-    templates-lead xs (clean-later table (template_findings is_user rows x) (templates_findings is_user rows xs) clean),
+    template-leads x (clean-once table (template_findings u rows x)
+        (clean-first table (each_once (template_findings u rows x)) (templates_findings u rows xs) clean)),
+    templates-lead xs (clean-later table (each_once (template_findings u rows x)) (templates_findings u rows xs) clean),
   )
 
-  none-empty : (xs : List Fault) → has_none xs ≡ true → xs ≡ []
-  none-empty [] is = refl
-  none-empty (x ∷ xs) is = cc
+  pages-lead : (templates : List (Text × Tree)) (pages : Pages) → IsClean table (pages_findings u rows templates pages)
+      → PagesLead table templates pages
+  pages-lead templates (source t) clean =
+      let tree = tree_ends (is_user_in u) rows None t (beginning ∷ []) in
+      (tree-leads (is_user_in u) rows None t (beginning ∷ []) (λ g. Unit {0}) (record {
+        states = All-each (λ (g : Html). Unit {0}) (λ g. tt) tree.states;
+        clean = clean;
+      })).0
+  pages-lead templates all_templates clean =
+      All-of_map (IsInTable table) (λ x. entering x.0 beginning) templates clean.rows
 
-  pub accepts-clean : (templates : List (Text × Tree)) (name : Option Text) (t : Tree)
-      → accepts is_user rows templates name t ≡ true → IsClean table (round is_user rows templates name t)
-  accepts-clean templates name t is =
-      let found = round is_user rows templates name t in
+  accepts-clean : (templates : List (Text × Tree)) (pages : Pages) → accepts u templates pages rows ≡ true
+      → IsClean table (round u rows templates pages)
+  accepts-clean templates pages is =
+      let found = round u rows templates pages in
       by_both (has_none found.faults) (list_all (has_row rows) found.rows) is (λ none has. record {
-        rows = All-of_test (IsInTable table) (has_row rows) (has_row-is is_user rows) found.rows has;
+        rows = All-of_test (IsInTable table) (has_row rows) (has_row-is (is_user_in u) rows) found.rows has;
         faults = none-empty found.faults none;
       })
 
-  pub accepted-leads : (templates : List (Text × Tree)) (name : Option Text) (t : Tree)
-      → accepts is_user rows templates name t ≡ true
-      → Leads html_rule table t beginning (λ g. Unit {0}) × AllByRecursion (LeadsByTable table) templates
-  accepted-leads templates name t is =
-      let tree = tree_ends is_user rows name t (beginning ∷ []) in
-      let others = templates_findings is_user rows templates in
-      let clean = accepts-clean templates name t is in (
-        (tree-leads is_user rows name t (beginning ∷ []) (λ g. Unit {0}) (record {
-          states = All-each (λ (g : Html). Unit {0}) (λ g. tt) tree.states;
-          clean = clean-first table tree.findings others clean;
-        })).0,
-        templates-lead templates (clean-later table tree.findings others clean),
+  -- What is accepted leads, and nothing user-defined breaks the rule.
+  pub accepted-leads : (templates : List (Text × Tree)) (pages : Pages) → accepts u templates pages rows ≡ true
+      → (PagesLead table templates pages × AllByRecursion (LeadsByTable table) templates) × (faults_of_registry u ≡ [])
+  accepted-leads templates pages is =
+      let first = each_once (pages_findings u rows templates pages) in
+      let parts = found_faults (faults_of_registry u) in
+      let others = templates_findings u rows templates in
+      let clean = accepts-clean templates pages is in
+      let rest = clean-later table first (both_findings parts others) clean in (
+        (
+          pages-lead templates pages
+              (clean-once table (pages_findings u rows templates pages) (clean-first table first (both_findings parts others) clean)),
+          templates-lead templates (clean-later table parts others rest),
+        ),
+        (clean-first table parts others rest).faults,
       )
 
 pub right_to_accept : (p : Setting) → IsRightToAccept p
-right_to_accept p is_user templates name t rows included is =
-    let leads = accepted-leads is_user rows templates name t is in (
-      leads.0,
-      λ n x registered h enters. All-contains (LeadsByTable (table_of is_user rows)) templates (n, x)
-          (All-from_recursion (LeadsByTable (table_of is_user rows)) templates leads.1) (included n h enters x registered) h enters,
+right_to_accept p u templates pages rows all is =
+    let leads = accepted-leads u rows templates pages is in (
+      leads.0.0,
+      λ n x registered. All-contains (LeadsByTable (table_of (is_user_in u) rows)) templates (n, x)
+          (All-from_recursion (LeadsByTable (table_of (is_user_in u) rows)) templates leads.0.1) (all n x registered),
     )
 
+-- A page leads from the beginning of a document.
+page-leads : (p : Setting) (table : Table html_rule) (templates : List (Text × Tree)) → AreAll p.parts.template templates
+    → IsClosed p html_rule table → (pages : Pages) → PagesLead table templates pages → (t : Tree) → IsPage p.parts.template pages t
+    → Leads html_rule table t beginning (λ g. Unit {0})
+page-leads p table templates all closed (source s) leads t is =
+    subst (λ (z : Tree). Leads html_rule table z beginning (λ g. Unit {0})) is leads
+page-leads p table templates all closed all_templates leads t is =
+    Leads-weaker html_rule table t beginning (table.leaves is.0 beginning) (λ g. Unit {0}) (λ g end. tt)
+    (closed is.0 t is.1 beginning (All-contains (λ x. table.enters x.0 beginning) templates (is.0, t)
+    (All-from_recursion (λ x. table.enters x.0 beginning) templates leads) (all is.0 t is.1)))
+
 pub accepted_keep_data_safe : (p : Setting) → AcceptedKeepDataSafe p
-accepted_keep_data_safe p escape is_user usual templates name t rows included is recursive ps o r =
-    let leads = right_to_accept p is_user templates name t rows included is in
-    data_stands_safely p escape (table_of is_user rows) usual leads.1 t leads.0 recursive ps o r
+accepted_keep_data_safe p u lists templates all pages verdict t page recursive ps o r =
+    let leads = right_to_accept p u templates pages verdict.0 all verdict.1 in
+    let usual = has_usual_parts p u lists (accepted-leads u verdict.0 templates pages verdict.1).1 in
+    let table = table_of (is_user_in u) verdict.0 in
+    data_stands_safely p usual.0 table usual.1 leads.1 t (page-leads p table templates all leads.1 pages leads.0 t page)
+    recursive ps o r
 
 -- ---- right to refuse
 
-module _ (table : Table html_rule) (templates : List (Text × Tree)) (all : AllByRecursion (LeadsByTable table) templates)
-    (name : Option Text) (t : Tree) (leads : Leads html_rule table t beginning (λ g. Unit {0})) where
-  template-clean : (rows : List Row) → AllByRecursion (IsInTable table) rows → (x : Text × Tree) → LeadsByTable table x
-      → IsClean table (template_findings table.is_user rows x)
-  template-clean rows known x lead =
+module _ (u : UserDefined) (none : faults_of_registry u ≡ []) (table : Table html_rule) (users : table.is_user ≡ is_user_in u)
+    (templates : List (Text × Tree)) (all : AllByRecursion (LeadsByTable table) templates) (pages : Pages)
+    (leads : PagesLead table templates pages) (rows : List Row) (known : AllByRecursion (IsInTable table) rows) where
+  fine : (name : Option Text) (t : Tree) (h : Html) (end : Html → Type 0) → Leads html_rule table t h end
+      → IsFine table end (tree_ends (is_user_in u) rows name t (h ∷ []))
+  fine name t h end lead =
+      subst (λ (z : Text → Bool). IsFine table end (tree_ends z rows name t (h ∷ []))) users
+      (tree-fine table rows known name t (h ∷ []) end (lead, tt))
+
+  template-clean : (x : Text × Tree) → LeadsByTable table x → IsClean table (template_findings u rows x)
+  template-clean x lead =
       entered-to_clean table rows
-      (λ n h. if bytes_eq n x.0 then tree_ends table.is_user rows (Some x.0) x.1 (h ∷ []) else ends_in []) known
+      (λ n h. if bytes_eq n x.0 then tree_ends (is_user_in u) rows (Some x.0) x.1 (h ∷ []) else ends_in []) known
       (λ n h enters. of_name n h enters (bytes_eq n x.0) (text-is n x.0))
     where
       of_name : (n : Text) (h : Html) → table.enters n h → (z : Bool) → (z ≡ true → n ≡ x.0)
-          → IsFine table (table.leaves n h) (if z then tree_ends table.is_user rows (Some x.0) x.1 (h ∷ []) else ends_in [])
+          → IsFine table (table.leaves n h) (if z then tree_ends (is_user_in u) rows (Some x.0) x.1 (h ∷ []) else ends_in [])
       of_name n h enters true to =
-          tree-fine table rows known (Some x.0) x.1 (h ∷ []) (table.leaves n h) (
-            subst (λ (z : Text). Leads html_rule table x.1 h (table.leaves z h)) (sym (to refl))
-                (lead h (subst (λ (z : Text). table.enters z h) (to refl) enters)),
-            tt,
-          )
+          fine (Some x.0) x.1 h (table.leaves n h) (subst (λ (z : Text). Leads html_rule table x.1 h (table.leaves z h)) (sym (to refl))
+          (lead h (subst (λ (z : Text). table.enters z h) (to refl) enters)))
       of_name n h enters false to = fine-states table (table.leaves n h) [] tt
 
-  templates-clean : (rows : List Row) → AllByRecursion (IsInTable table) rows → (xs : List (Text × Tree))
-      → AllByRecursion (LeadsByTable table) xs → IsClean table (templates_findings table.is_user rows xs)
-  templates-clean rows known [] lead = record { rows = tt; faults = refl }
-  templates-clean rows known (x ∷ xs) lead =
-      clean-both table (template_findings table.is_user rows x) (templates_findings table.is_user rows xs)
-      (template-clean rows known x lead.0) (templates-clean rows known xs lead.1)
+  templates-clean : (xs : List (Text × Tree)) → AllByRecursion (LeadsByTable table) xs
+      → IsClean table (templates_findings u rows xs)
+  templates-clean [] lead = record { rows = tt; faults = refl }
+  templates-clean (x ∷ xs) lead =
+      clean-both table (each_once (template_findings u rows x)) (templates_findings u rows xs)
+      (once-clean table (template_findings u rows x) (template-clean x lead.0)) (templates-clean xs lead.1)
 
-  round-clean : (rows : List Row) → AllByRecursion (IsInTable table) rows
-      → IsClean table (round table.is_user rows templates name t)
-  round-clean rows known =
-      clean-both table (tree_ends table.is_user rows name t (beginning ∷ [])).findings
-      (templates_findings table.is_user rows templates)
-      (tree-fine table rows known name t (beginning ∷ []) (λ g. Unit {0}) (leads, tt)).clean
-      (templates-clean rows known templates all)
+  pages-clean : (which : Pages) → PagesLead table templates which → IsClean table (pages_findings u rows templates which)
+  pages-clean (source t) lead = (fine None t beginning (λ g. Unit {0}) lead).clean
+  pages-clean all_templates lead = record {
+    rows = All-to_map (IsInTable table) (λ x. entering x.0 beginning) templates lead;
+    faults = refl;
+  }
 
-  searched-known : (n : ℕ) → AllByRecursion (IsInTable table) (searched table.is_user templates name t n)
-  searched-known zero = tt
-  searched-known (suc n) =
-      with_rows-all table (searched table.is_user templates name t n)
-      (round table.is_user (searched table.is_user templates name t n) templates name t).rows (searched-known n)
-      (round-clean (searched table.is_user templates name t n) (searched-known n)).rows
-
-  pub no_faults_after : (n : ℕ) → faults_after table.is_user templates name t n ≡ []
-  no_faults_after n =
-      ap (with_faults []) (round-clean (searched table.is_user templates name t n) (searched-known n)).faults
+  pub round-clean : IsClean table (round u rows templates pages)
+  round-clean =
+      clean-both table (each_once (pages_findings u rows templates pages))
+      (both_findings (found_faults (faults_of_registry u)) (templates_findings u rows templates))
+      (once-clean table (pages_findings u rows templates pages) (pages-clean pages leads))
+      (clean-both table (found_faults (faults_of_registry u)) (templates_findings u rows templates)
+      (record { rows = tt; faults = none }) (templates-clean templates all))
 
 pub right_to_refuse : (p : Setting) → IsRightToRefuse p
-right_to_refuse p templates stored name t table closed leads n =
-    no_faults_after table templates
-    (All-has (LeadsByTable table) templates (λ x has. closed x.0 x.1 (stored x.0 x.1 has))) name t leads n
+right_to_refuse p u none templates registered table users closed pages leads n = (clean n (known n)).faults
+  where
+    all : AllByRecursion (LeadsByTable table) templates
+    all = All-has (LeadsByTable table) templates (λ x has. closed x.0 x.1 (registered x.0 x.1 has))
+
+    clean : (n : ℕ) → AllByRecursion (IsInTable table) (searched u templates pages n)
+        → IsClean table (round u (searched u templates pages n) templates pages)
+    clean n known = round-clean u none table users templates all pages leads (searched u templates pages n) known
+
+    known : (n : ℕ) → AllByRecursion (IsInTable table) (searched u templates pages n)
+    known zero = tt
+    known (suc n) =
+        with_rows-all table (searched u templates pages n) (round u (searched u templates pages n) templates pages).rows (known n)
+        (clean n (known n)).rows
 
 -- ---- rows that are needed
 
@@ -154,78 +204,98 @@ has_row-of : (is_user : Text → Bool) (rows : List Row) (r : Row) → IsInTable
 has_row-of is_user rows (entering n h) is = is
 has_row-of is_user rows (leaving n h g) is = is
 
-module _ (is_user : Text → Bool) (templates : List (Text × Tree)) (name : Option Text) (t : Tree) where
-  needed-known : (rows others : List Row) → AreNeeded is_user templates name t rows
-      → accepts is_user others templates name t ≡ true → AllByRecursion (IsInTable (table_of is_user others)) rows
-  needed-known rows others needed is =
-      All-of_test (IsInTable (table_of is_user others)) (has_row others) (has_row-is is_user others) rows (needed others is)
+module _ (u : UserDefined) (templates : List (Text × Tree)) (pages : Pages) where
+  -- what the rows say
+  abbrev by : List Row → Table html_rule
+  by rows = table_of (is_user_in u) rows
 
-  known-needed : (rows others : List Row) → AllByRecursion (IsInTable (table_of is_user others)) rows
-      → list_all (has_row others) rows ≡ true
+  needed-known : (rows others : List Row) → AreNeeded u templates pages rows → accepts u templates pages others ≡ true
+      → AllByRecursion (IsInTable (by others)) rows
+  needed-known rows others needed is =
+      All-of_test (IsInTable (by others)) (has_row others) (has_row-is (is_user_in u) others) rows (needed others is)
+
+  known-needed : (rows others : List Row) → AllByRecursion (IsInTable (by others)) rows → list_all (has_row others) rows ≡ true
   known-needed [] others all = refl
   known-needed (r ∷ rows) others all =
-      ap (λ (x : Bool). x && list_all (has_row others) rows) (has_row-of is_user others r all.0) ∙ known-needed rows others all.1
+      ap (λ (x : Bool). x && list_all (has_row others) rows) (has_row-of (is_user_in u) others r all.0)
+      ∙ known-needed rows others all.1
 
   -- What is needed is what each table has that is accepted.
-  by_accepted : (rows : List Row) → ((others : List Row) → accepts is_user others templates name t ≡ true
-      → AllByRecursion (IsInTable (table_of is_user others)) rows) → AreNeeded is_user templates name t rows
+  by_accepted : (rows : List Row) → ((others : List Row) → accepts u templates pages others ≡ true
+      → AllByRecursion (IsInTable (by others)) rows) → AreNeeded u templates pages rows
   by_accepted rows to others is = known-needed rows others (to others is)
 
-  pub needed-none : AreNeeded is_user templates name t []
+  -- A round by rows that are needed finds no fault, and rows that another table has, if that is accepted.
+  clean-by : (rows others : List Row) → AreNeeded u templates pages rows → accepts u templates pages others ≡ true
+      → IsClean (by others) (round u rows templates pages)
+  clean-by rows others needed is =
+      let leads = accepted-leads u others templates pages is in
+      round-clean u leads.1 (by others) refl templates leads.0.1 pages leads.0.0 rows (needed-known rows others needed is)
+
+  pub needed-none : AreNeeded u templates pages []
   needed-none others is = refl
 
-  pub needed-with : (rows rs : List Row) → AreNeeded is_user templates name t rows → AreNeeded is_user templates name t rs
-      → AreNeeded is_user templates name t (with_rows rows rs)
+  pub needed-with : (rows rs : List Row) → AreNeeded u templates pages rows → AreNeeded u templates pages rs
+      → AreNeeded u templates pages (with_rows rows rs)
   needed-with rows rs first second = by_accepted (with_rows rows rs) (λ others is.
-      with_rows-all (table_of is_user others) rows rs (needed-known rows others first is) (needed-known rs others second is))
+      with_rows-all (by others) rows rs (needed-known rows others first is) (needed-known rs others second is))
 
-  -- The rows are needed that the tree needs by rows that are needed.
-  pub needed-tree : (rows : List Row) → AreNeeded is_user templates name t rows
-      → AreNeeded is_user templates name t (tree_ends is_user rows name t (beginning ∷ [])).findings.rows
-  needed-tree rows needed = by_accepted (tree_ends is_user rows name t (beginning ∷ [])).findings.rows (λ others is.
-      (tree-fine (table_of is_user others) rows (needed-known rows others needed is) name t (beginning ∷ []) (λ g. Unit {0})
-      ((accepted-leads is_user others templates name t is).0, tt)).clean.rows)
+  -- The rows are needed that a round finds by rows that are needed.
+  pub needed-round : (rows : List Row) → AreNeeded u templates pages rows
+      → AreNeeded u templates pages (round u rows templates pages).rows
+  needed-round rows needed =
+      by_accepted (round u rows templates pages).rows (λ others is. (clean-by rows others needed is).rows)
+
+  -- So are those that the pages need.
+  pub needed-pages : (rows : List Row) → AreNeeded u templates pages rows
+      → AreNeeded u templates pages (pages_findings u rows templates pages).rows
+  needed-pages rows needed = by_accepted (pages_findings u rows templates pages).rows (λ others is.
+      All-first (IsInTable (by others)) (pages_findings u rows templates pages).rows
+      (both_findings (found_faults (faults_of_registry u)) (templates_findings u rows templates)).rows
+      (clean-by rows others needed is).rows)
+
+  -- Those that a table lacks are needed if all are.
+  pub needed-missing : (table rs : List Row) → AreNeeded u templates pages rs
+      → AreNeeded u templates pages (with_missing table [] rs)
+  needed-missing table rs needed others is = with_missing-all (has_row others) table [] rs refl (needed others is)
 
   -- So are those that a template needs where it is included as rows say that are needed.
-  pub needed-entering : (rows : List Row) → AreNeeded is_user templates name t rows → (x : Text × Tree) → Contains templates x
+  pub needed-entering : (rows : List Row) → AreNeeded u templates pages rows → (x : Text × Tree) → Contains templates x
       → (h : Html) → has_entering rows x.0 h ≡ true
-      → AreNeeded is_user templates name t
-      (findings_of_entering x.0 h (tree_ends is_user rows (Some x.0) x.1 (h ∷ []))).rows
+      → AreNeeded u templates pages (findings_of_entering x.0 h (tree_ends (is_user_in u) rows (Some x.0) x.1 (h ∷ []))).rows
   needed-entering rows needed x stored h has =
-      by_accepted (findings_of_entering x.0 h (tree_ends is_user rows (Some x.0) x.1 (h ∷ []))).rows (λ others is.
-      let table = table_of is_user others in
+      by_accepted (findings_of_entering x.0 h (tree_ends (is_user_in u) rows (Some x.0) x.1 (h ∷ []))).rows (λ others is.
+      let table = by others in
       let known = needed-known rows others needed is in
-      let all = (accepted-leads is_user others templates name t is).1 in
+      let all = (accepted-leads u others templates pages is).0.1 in
       let leads = All-contains (LeadsByTable table) templates x (All-from_recursion (LeadsByTable table) templates all) stored in
-      (entering-to_clean table x.0 h (tree_ends is_user rows (Some x.0) x.1 (h ∷ []))
+      (entering-to_clean table x.0 h (tree_ends (is_user_in u) rows (Some x.0) x.1 (h ∷ []))
       (tree-fine table rows known (Some x.0) x.1 (h ∷ []) (table.leaves x.0 h)
       (leads h (entering-known table rows known x.0 h has), tt))).rows)
 
-  -- So are all of a round.
-  pub needed-round : (rows : List Row) → AreNeeded is_user templates name t rows
-      → AreNeeded is_user templates name t (round is_user rows templates name t).rows
-  needed-round rows needed = by_accepted (round is_user rows templates name t).rows (λ others is.
-      let leads = accepted-leads is_user others templates name t is in
-      (round-clean (table_of is_user others) templates leads.1 name t leads.0 rows (needed-known rows others needed is)).rows)
+  -- If some rows are accepted, then those that are needed show no fault.
+  no_faults_by : (rows others : List Row) → AreNeeded u templates pages rows → accepts u templates pages others ≡ true
+      → faults_by u templates pages rows ≡ []
+  no_faults_by rows others needed is = (clean-by rows others needed is).faults
 
-  pub needed-searched : (n : ℕ) → AreNeeded is_user templates name t (searched is_user templates name t n)
+  needed-searched : (n : ℕ) → AreNeeded u templates pages (searched u templates pages n)
   needed-searched zero = needed-none
   needed-searched (suc n) =
-      needed-with (searched is_user templates name t n)
-      (round is_user (searched is_user templates name t n) templates name t).rows (needed-searched n)
-      (needed-round (searched is_user templates name t n) (needed-searched n))
+      needed-with (searched u templates pages n) (round u (searched u templates pages n) templates pages).rows
+      (needed-searched n) (needed-round (searched u templates pages n) (needed-searched n))
 
-  -- If some rows are accepted, then those that are needed show no fault.
-  pub no_faults_by : (rows others : List Row) → AreNeeded is_user templates name t rows
-      → accepts is_user others templates name t ≡ true → faults_by is_user templates name t rows ≡ []
-  no_faults_by rows others needed is =
-      let leads = accepted-leads is_user others templates name t is in
-      ap (with_faults [])
-      (round-clean (table_of is_user others) templates leads.1 name t leads.0 rows (needed-known rows others needed is)).faults
+-- A round by rows that are needed, which finds no row that is missing, decides.
+pub round-decides : (u : UserDefined) (templates : List (Text × Tree)) (pages : Pages) (rows : List Row)
+    → AreNeeded u templates pages rows → with_missing rows [] (round u rows templates pages).rows ≡ []
+    → IsVerdict u templates pages (verdict_in (round u rows templates pages).faults)
+round-decides u templates pages rows needed missing = by (round u rows templates pages).faults refl
+  where
+    by : (xs : List Fault) → (round u rows templates pages).faults ≡ xs → IsVerdict u templates pages (verdict_in xs)
+    by [] none = (rows, accepts-none rows (round u rows templates pages) missing none)
+    by (x ∷ xs) is = (rows, needed, with_missing-none rows (round u rows templates pages).rows missing, sym is, λ never. true-false (ap (λ (ys : List Fault). is_some_fault ys) never))
 
 pub accepted_have_no_faults : AcceptedHaveNoFaults
-accepted_have_no_faults is_user templates name t accepted = (
-  λ xs faulty. faulty.3 (faulty.2 ∙ no_faults_by is_user templates name t faulty.0 accepted.0 faulty.1 accepted.1),
-  λ n. no_faults_by is_user templates name t (searched is_user templates name t n) accepted.0
-      (needed-searched is_user templates name t n) accepted.1,
+accepted_have_no_faults u templates pages accepted = (
+  λ xs some. some.4 (some.3 ∙ no_faults_by u templates pages some.0 accepted.0 some.1 accepted.1),
+  λ n. no_faults_by u templates pages (searched u templates pages n) accepted.0 (needed-searched u templates pages n) accepted.1,
 )

@@ -14,7 +14,7 @@ use Rattle.handlebars_scope.specs.Resolve.{or_else}
 use Rattle.handlebars_helpers.specs.CallView.{CallView, HelperView, param_at}
 use Rattle.handlebars_helpers.specs.Callee.{built, LocalHelper, Target, calls_registered, calls_local}
 use Rattle.handlebars_helpers.specs.Choice.{BuiltInKind, built_in, Choice, the_value, nothing, null_or_refusal, built_in_choice}
-use Rattle.handlebars_helpers.specs.UserHelper.{Step, Offer, not_offered, offers_missing, offers}
+use Rattle.handlebars_helpers.specs.UserHelper.{Step, Offer, GivesValues, not_offered, offers_missing, offers}
 use Rattle.handlebars_helpers.specs.Callee.{user, first_callee}
 use Rattle.handlebars_semantics.specs.Questions.{choice_of, offer_choice, steps_or_offer}
 use Rattle.handlebars_semantics.specs.Values.{HasSteps}
@@ -25,7 +25,7 @@ use Rattle.handlebars_semantics.specs.Sections.{section_kind, section_call, HasS
 use Rattle.handlebars_semantics.specs.State.{Setting, State, hook, helper_named, helper_for, registered_target}
 use Rattle.handlebars_semantics.specs.Values.{HasName, HaveValues}
 use Rattle.handlebars_html.specs.Rule.{Effect, iterations, a_value, effect_of, effect_named, written_name, IsNamed, inline_name}
-use Rattle.handlebars_html.specs.Usual.{GivesValues, HelperIs, IsUsual}
+use Rattle.handlebars_html.specs.Usual.{HelperIs, IsUsual}
 use Rattle.handlebars_html.proofs.Effects.{Given, given-gives, gives-same, Fits, null-fits, kind-fits, section-fits, IsNoSteps, fits-no_steps, IsSet}
 
 -- ---- what calls call

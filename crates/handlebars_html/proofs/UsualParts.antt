@@ -1,15 +1,14 @@
 -- A registry in which the check finds no fault has usual parts.
-use Rattle.std.proofs.Common.{◌≡◌, Bool, true, false, not, ◌||◌, List, [], ◌∷◌, ◌++◌, map, refl, sym, ap, ◌∙◌, subst, Some}
+use Rattle.std.proofs.Common.{◌≡◌, Bool, true, false, not, ◌||◌, List, [], ◌∷◌, ◌++◌, map, refl, sym, ap, ◌∙◌, subst}
 use Rattle.std.specs.List.{AllByRecursion, flat_map, list_any}
 use Rattle.std.specs.Str.{bytes_eq}
 use Rattle.handlebars_base.specs.Bytes.{Text}
-use Rattle.handlebars_helpers.specs.Callee.{user}
 use Rattle.handlebars_helpers.specs.Escaping.{Escaping, for_html, for_plain, by_user}
 use Rattle.handlebars_semantics.specs.State.{Setting, hook}
 use Rattle.handlebars_html.specs.Ascii.{is_one_of}
-use Rattle.handlebars_html.specs.Usual.{GivesValues, HelperIs}
-use Rattle.handlebars_html.specs.Faults.{Why, helper_with_steps, user_hook, user_decorator, unless}
-use Rattle.handlebars_html.specs.Registry.{is_user_in, whys_of_escape, is_hook, whys_of_helper, HasUsualParts}
+use Rattle.handlebars_html.specs.Usual.{HelperIs}
+use Rattle.handlebars_html.specs.Faults.{Why, user_hook, user_decorator}
+use Rattle.handlebars_html.specs.Registry.{OtherKind, gives_values, may_have_steps, misplaced, IsOther, is_user_in, whys_of_escape, is_hook, whys_of_kind, whys_of_helper, HasUsualParts}
 use Rattle.handlebars_html.proofs.CleanFindings.{text-is, text-self}
 use Rattle.handlebars_html.proofs.StateLists.{true-false, not-true, All-map, empty-first, empty-later, empty-of_map, empty-of_flat, unless-true}
 
@@ -23,36 +22,36 @@ or-false true y is = cc
 or-false false y is = (refl, is)
 
 -- what is said of each listed helper
-abbrev HasHelper : Setting → Text × Bool → Type 0
-HasHelper p x = (k : Text) × (p.parts.helper x.0 ≡ Some (user k)) × (x.1 ≡ true → GivesValues (p.parts.user k))
+abbrev HasHelper : Setting → Text × OtherKind → Type 0
+HasHelper p x = IsOther p.parts.helper p.parts.user x.0 x.1
 
 -- A listed helper gives values and is no hook.
-abbrev IsPlain : Text × Bool → Type 0
-IsPlain x = (x.1 ≡ true) × (is_hook x.0 ≡ false)
+abbrev IsPlain : Text × OtherKind → Type 0
+IsPlain x = (x.1 ≡ gives_values) × (is_hook x.0 ≡ false)
 
-helper-plain : (x : Text × Bool) → whys_of_helper x ≡ [] → IsPlain x
-helper-plain x none = (
-  unless-true x.1 (helper_with_steps x.0)
-      (empty-first (unless x.1 (helper_with_steps x.0)) (unless (not (is_hook x.0)) (user_hook x.0)) none),
-  not-true (is_hook x.0) (unless-true (not (is_hook x.0)) (user_hook x.0)
-      (empty-later (unless x.1 (helper_with_steps x.0)) (unless (not (is_hook x.0)) (user_hook x.0)) none)),
-)
+kind-plain : (n : Text) (k : OtherKind) → whys_of_kind n k ≡ [] → (k ≡ gives_values) × (is_hook n ≡ false)
+kind-plain n gives_values none = (refl, not-true (is_hook n) (unless-true (not (is_hook n)) (user_hook n) none))
+kind-plain n may_have_steps none = cc
+kind-plain n misplaced none = cc
 
-abbrev is_listed : Text → List (Text × Bool) → Bool
-is_listed n xs = list_any (λ (x : Text × Bool). bytes_eq x.0 n) xs
+helper-plain : (x : Text × OtherKind) → whys_of_helper x ≡ [] → IsPlain x
+helper-plain x none = kind-plain x.0 x.1 none
+
+abbrev is_listed : Text → List (Text × OtherKind) → Bool
+is_listed n xs = list_any (λ (x : Text × OtherKind). bytes_eq x.0 n) xs
 
 -- what holds of each listed helper holds of one of this name
-listed-has : (P : Text × Bool → Type 0) (xs : List (Text × Bool)) → AllByRecursion P xs → (n : Text) → is_listed n xs ≡ true
-    → (x : Text × Bool) × (x.0 ≡ n) × P x
+listed-has : (P : Text × OtherKind → Type 0) (xs : List (Text × OtherKind)) → AllByRecursion P xs → (n : Text) → is_listed n xs ≡ true
+    → (x : Text × OtherKind) × (x.0 ≡ n) × P x
 listed-has P [] all n is = cc
 listed-has P (x ∷ xs) all n is = by (bytes_eq x.0 n) (text-is x.0 n) is (listed-has P xs all.1 n)
   where
     by : (b : Bool) → (b ≡ true → x.0 ≡ n) → (b || is_listed n xs) ≡ true
-        → (is_listed n xs ≡ true → (y : Text × Bool) × (y.0 ≡ n) × P y) → (y : Text × Bool) × (y.0 ≡ n) × P y
+        → (is_listed n xs ≡ true → (y : Text × OtherKind) × (y.0 ≡ n) × P y) → (y : Text × OtherKind) × (y.0 ≡ n) × P y
     by true to is rest = (x, to refl, all.0)
     by false to is rest = rest is
 
-unlisted : (xs : List (Text × Bool)) → AllByRecursion IsPlain xs → (block : Bool) → is_listed (hook block) xs ≡ false
+unlisted : (xs : List (Text × OtherKind)) → AllByRecursion IsPlain xs → (block : Bool) → is_listed (hook block) xs ≡ false
 unlisted xs all block = by (is_listed (hook block) xs) refl
   where
     no_hook : (block : Bool) (m : Text) → m ≡ hook block → is_hook m ≡ false → ⊥
@@ -69,11 +68,11 @@ unlisted xs all block = by (is_listed (hook block) xs) refl
 
 pub has_usual_parts : (p : Setting) → HasUsualParts p
 has_usual_parts p r lists none = (
-  lists.escape ∙ escape-is r.escape of_escape,
+  lists.escape_is ∙ escape-is r.escape of_escape,
   record {
     helpers = λ n. helper n (is_user_in r n) refl;
     hooks = unlisted r.helpers plain;
-    decorators = λ n. lists.other_decorators n (ap (λ (ds : List Text). is_one_of ds n) no_decorators);
+    decorators = λ n. lists.decorators.others n (ap (λ (ds : List Text). is_one_of ds n) no_decorators);
   },
 )
   where
@@ -98,13 +97,21 @@ has_usual_parts p r lists none = (
     no_decorators = empty-of_map (λ n. user_decorator n) r.decorators
         (empty-later (flat_map whys_of_helper r.helpers) (map (λ n. user_decorator n) r.decorators) rest_none)
 
-    both : (xs : List (Text × Bool)) → AllByRecursion (HasHelper p) xs → AllByRecursion IsPlain xs
+    of_kind : (n : Text) (k : OtherKind) → k ≡ gives_values → IsOther p.parts.helper p.parts.user n k → HelperIs p true n
+    of_kind n gives_values is has = (n, has.0, has.1)
+    of_kind n may_have_steps is has = cc
+    of_kind n misplaced is has = cc
+
+    one : (x : Text × OtherKind) → HasHelper p x → IsPlain x → HelperIs p true x.0
+    one x has other = of_kind x.0 x.1 other.0 has
+
+    both : (xs : List (Text × OtherKind)) → AllByRecursion (HasHelper p) xs → AllByRecursion IsPlain xs
         → AllByRecursion (λ x. HelperIs p true x.0) xs
     both [] all others = tt
-    both (x ∷ xs) all others = ((all.0.0, all.0.1, all.0.2 others.0.0), both xs all.1 others.1)
+    both (x ∷ xs) all others = (one x all.0 others.0, both xs all.1 others.1)
 
     helper : (n : Text) (b : Bool) → is_user_in r n ≡ b → HelperIs p (is_user_in r n) n
     helper n true e =
-        let there = listed-has (λ x. HelperIs p true x.0) r.helpers (both r.helpers lists.helpers plain) n e in
+        let there = listed-has (λ x. HelperIs p true x.0) r.helpers (both r.helpers lists.helpers.listed plain) n e in
         subst (λ (z : Bool). HelperIs p z n) (sym e) (subst (λ (z : Text). HelperIs p true z) there.1 there.2)
-    helper n false e = subst (λ (z : Bool). HelperIs p z n) (sym e) (lists.other_helpers n e)
+    helper n false e = subst (λ (z : Bool). HelperIs p z n) (sym e) (lists.helpers.others n e)

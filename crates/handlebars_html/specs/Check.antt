@@ -12,7 +12,7 @@ use Rattle.handlebars_html.specs.Tokenizer.{Tokenizer, stuck, is_refused}
 use Rattle.handlebars_html.specs.Html.{Html, beginning, step, after, is_safe, after_data, is_blank}
 use Rattle.handlebars_html.specs.Rule.{Effect, one_branch, iterations, a_value, no_output, effect_named, written_name, inline_name}
 use Rattle.handlebars_html.specs.Same.{is_same}
-use Rattle.handlebars_html.specs.Rows.{is_among, with_states, each_state, without_state, Row, entering, leaving, leaving_states, leavings, with_rows}
+use Rattle.handlebars_html.specs.Rows.{is_among, with_states, each_state, without_state, Row, entering, leaving, leaving_states, leavings}
 use Rattle.handlebars_html.specs.Faults.{Why, unsafe_value, unread_value, unescaped_value, changed_text, late_attribute, changed_by_iteration, changed_by_block, captured_text_in, made_inclusion, made_block, other_indent, expression_bodies, Fault, faults_at, unless, with_faults}
 
 -- ---- what is found
@@ -38,9 +38,9 @@ found_faults faults = record { rows = []; faults = faults }
 abbrev pub both_findings : Findings → Findings → Findings
 both_findings x y = record { rows = x.rows ++ y.rows; faults = x.faults ++ y.faults }
 
--- what was found so far, and these findings, each row and each fault once
-abbrev pub with_findings : Findings → Findings → Findings
-with_findings x y = record { rows = with_rows x.rows y.rows; faults = with_faults x.faults y.faults }
+-- each fault once
+abbrev pub each_once : Findings → Findings
+each_once x = record { rows = x.rows; faults = with_faults [] x.faults }
 
 -- the findings of each state, one after another
 abbrev pub findings_of_each : (Html → Findings) → List Html → Findings
@@ -140,11 +140,15 @@ module _ (rows : List Row) where
 abbrev pub findings_of_entering : Text → Html → Ends → Findings
 findings_of_entering n h x = both_findings x.findings (found_rows (leavings n h x.states))
 
--- what is found where something is included by a name in a state, by each of these rows
+-- what is found where something is included by this row, if it says that
+abbrev pub findings_of_row : Row → (Text → Html → Ends) → Findings
+findings_of_row (entering n h) f = findings_of_entering n h (f n h)
+findings_of_row (leaving n h g) f = no_findings
+
+-- by each of these rows
 abbrev pub findings_of_entered : List Row → (Text → Html → Ends) → Findings
 findings_of_entered [] f = no_findings
-findings_of_entered (entering n h ∷ rows) f = both_findings (findings_of_entering n h (f n h)) (findings_of_entered rows f)
-findings_of_entered (leaving n h g ∷ rows) f = findings_of_entered rows f
+findings_of_entered (row ∷ rows) f = both_findings (findings_of_row row f) (findings_of_entered rows f)
 
 -- ---- positions
 

@@ -22,8 +22,9 @@ use Rattle.handlebars_html.specs.Same.{is_same}
 -- Why a registry breaks it:
 -- - Values are not escaped for html.
 -- - The user-defined helper of this name has steps, and so may write anything.
+-- - Another built-in helper than that of this name is registered under it, or none.
 -- - A user-defined helper is registered under this name, which is that of a hook.
--- - A user-defined decorator is registered under this name.
+-- - Another decorator than that of this name is registered under it, or none.
 pub data Why : Type 0 where
   unsafe_value : Html → Why
   unread_value : Why
@@ -39,6 +40,7 @@ pub data Why : Type 0 where
   expression_bodies : Why
   other_escape : Why
   helper_with_steps : Text → Why
+  misplaced_helper : Text → Why
   user_hook : Text → Why
   user_decorator : Text → Why
 
@@ -81,6 +83,7 @@ is_same_why other_indent other_indent = true
 is_same_why expression_bodies expression_bodies = true
 is_same_why other_escape other_escape = true
 is_same_why (helper_with_steps n) (helper_with_steps m) = bytes_eq n m
+is_same_why (misplaced_helper n) (misplaced_helper m) = bytes_eq n m
 is_same_why (user_hook n) (user_hook m) = bytes_eq n m
 is_same_why (user_decorator n) (user_decorator m) = bytes_eq n m
 is_same_why v w = false

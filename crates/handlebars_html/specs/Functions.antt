@@ -11,8 +11,8 @@ use Rattle.handlebars_helpers.specs.Escaping.{Escaping}
 use Rattle.handlebars_helpers.specs.UserDecorator.{DecoratorQuestion}
 use Rattle.handlebars_helpers.specs.UserHelper.{HelperQuestion, Step, Offer}
 use Rattle.handlebars_semantics.specs.State.{Setting}
-use Rattle.handlebars_html.specs.Registry.{UserDefined, is_user_in, Lists, faults_of_registry}
-use Rattle.handlebars_html.specs.Search.{no_faults, IsVerdict, KeepsDataSafeIn}
+use Rattle.handlebars_html.specs.Registry.{UserDefined, Lists}
+use Rattle.handlebars_html.specs.Search.{Pages, no_faults, IsVerdict, IsPage, KeepsDataSafeIn}
 
 -- What is registered under the names of helpers and of decorators, and what user-defined ones answer; how values are escaped, and
 -- what a user-defined escape function answers; the templates; and the modes.
@@ -54,10 +54,10 @@ setting_of r d = record {
   };
 }
 
--- If the check finds no fault in what is user-defined, nor in a tree, then in each run of the tree, whatever the data, and however
+-- If the check finds no fault, in what is user-defined or in the pages, then in each run of a page, whatever the data, and however
 -- the run ends, data stands only where it may.
 abbrev pub CheckedKeepDataSafe : Type 0
 CheckedKeepDataSafe =
-    (r : FunctionRegistry) (d : Data) (u : UserDefined) → Lists (setting_of r d) u → faults_of_registry u ≡ []
-    → (name : Option Text) (t : Tree) → IsVerdict (is_user_in u) r.templates name t no_faults
+    (r : FunctionRegistry) (d : Data) (u : UserDefined) → Lists (setting_of r d).parts u
+    → (pages : Pages) → IsVerdict u r.templates pages no_faults → (t : Tree) → IsPage (template_in r.templates) pages t
     → KeepsDataSafeIn (setting_of r d) t

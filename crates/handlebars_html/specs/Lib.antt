@@ -11,8 +11,14 @@ pub mod Usual
 pub mod Safety
 pub mod Sample
 pub mod Rows
+pub mod RowsView
 pub mod Faults
 pub mod Check
-pub mod Search
 pub mod Registry
+pub mod Search
+pub mod Checked
 pub mod Functions
+pub mod FoundView
+pub mod EffectView
+pub mod SearchView
+pub mod ReadingView

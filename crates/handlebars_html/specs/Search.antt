@@ -1,39 +1,50 @@
--- The search for a table by which a tree and the templates that it includes keep the rule of data, and what it says.
-use Rattle.std.specs.Prelude.{◌≡◌, ◌≢◌, ℕ, zero, suc, Bool, true, false, ◌&&◌, if◌then◌else◌, List, [], ◌∷◌, Option, Some, Contains}
-use Rattle.std.specs.List.{list_all}
+-- The search for a table by which pages and the templates that they include keep the rule of data, and what it says.
+use Rattle.std.specs.Prelude.{◌≡◌, ◌≢◌, ℕ, zero, suc, Bool, true, false, ◌&&◌, if◌then◌else◌, List, [], ◌∷◌, map, Option, None, Some}
+use Rattle.std.specs.List.{AllByRecursion, Contains, list_all}
 use Rattle.std.specs.Str.{bytes_eq}
 use Rattle.handlebars_base.specs.Bytes.{Text}
 use Rattle.handlebars_template.specs.Tree.{Tree}
-use Rattle.handlebars_helpers.specs.Escaping.{for_html}
 use Rattle.handlebars_semantics.specs.Pieces.{Piece}
 use Rattle.handlebars_semantics.specs.Runs.{Outcome, Means}
 use Rattle.handlebars_semantics.specs.State.{Setting, first_state}
-use Rattle.handlebars_html.specs.Html.{Html, beginning}
+use Rattle.handlebars_html.specs.Html.{beginning}
 use Rattle.handlebars_html.specs.Rule.{Table, Leads}
-use Rattle.handlebars_html.specs.Usual.{IsUsual, IsClosed}
+use Rattle.handlebars_html.specs.Usual.{IsClosed}
 use Rattle.handlebars_html.specs.Safety.{html_rule, StandSafely}
-use Rattle.handlebars_html.specs.Rows.{Row, has_entering, has_row, with_rows, table_of}
-use Rattle.handlebars_html.specs.Faults.{Fault, with_faults}
-use Rattle.handlebars_html.specs.Check.{Findings, no_findings, both_findings, ends_in, findings_of_entered, tree_ends}
+use Rattle.handlebars_html.specs.Rows.{Row, entering, has_row, with_rows, table_of}
+use Rattle.handlebars_html.specs.Faults.{Fault}
+use Rattle.handlebars_html.specs.Check.{Findings, no_findings, both_findings, found_rows, found_faults, each_once, ends_in, findings_of_entered, tree_ends}
+use Rattle.handlebars_html.specs.Registry.{UserDefined, is_user_in, Lists, faults_of_registry}
+
+-- What is checked, as pages: this source; or each template, which may be rendered by its name.
+pub data Pages : Type 0 where
+  source : Tree → Pages
+  all_templates : Pages
 
 -- ---- a round
 
-module _ (is_user : Text → Bool) (rows : List Row) where
+module _ (u : UserDefined) (rows : List Row) where
+  -- A source is read from the beginning of a document. A template that is rendered by its name is included there.
+  abbrev pub pages_findings : List (Text × Tree) → Pages → Findings
+  pages_findings templates (source t) = (tree_ends (is_user_in u) rows None t (beginning ∷ [])).findings
+  pages_findings templates all_templates = found_rows (map (λ x. entering x.0 beginning) templates)
+
   -- A template is read from each state in which its name is included.
   abbrev pub template_findings : Text × Tree → Findings
   template_findings x =
       findings_of_entered rows
-      (λ n h. if bytes_eq n x.0 then tree_ends is_user rows (Some x.0) x.1 (h ∷ []) else ends_in [])
+      (λ n h. if bytes_eq n x.0 then tree_ends (is_user_in u) rows (Some x.0) x.1 (h ∷ []) else ends_in [])
 
   -- all templates, one after another
   abbrev pub templates_findings : List (Text × Tree) → Findings
   templates_findings [] = no_findings
-  templates_findings (x ∷ xs) = both_findings (template_findings x) (templates_findings xs)
+  templates_findings (x ∷ xs) = both_findings (each_once (template_findings x)) (templates_findings xs)
 
-  -- A tree of this name, if it has one, is read from the beginning of a document, and then all templates.
-  abbrev pub round : List (Text × Tree) → Option Text → Tree → Findings
-  round templates n t =
-      both_findings (tree_ends is_user rows n t (beginning ∷ [])).findings (templates_findings templates)
+  -- First come the pages, then what is user-defined, and then all templates.
+  abbrev pub round : List (Text × Tree) → Pages → Findings
+  round templates pages =
+      both_findings (each_once (pages_findings templates pages))
+      (both_findings (found_faults (faults_of_registry u)) (templates_findings templates))
 
 -- whether there is no fault
 abbrev pub has_none : List Fault → Bool
@@ -44,21 +55,21 @@ has_none (x ∷ xs) = false
 abbrev pub accepts_findings : List Row → Findings → Bool
 accepts_findings rows x = has_none x.faults && list_all (has_row rows) x.rows
 
--- The rows are accepted for this tree and these templates.
-abbrev pub accepts : (Text → Bool) → List Row → List (Text × Tree) → Option Text → Tree → Bool
-accepts is_user rows templates n t = accepts_findings rows (round is_user rows templates n t)
+module _ (u : UserDefined) (templates : List (Text × Tree)) (pages : Pages) where
+  -- The rows are accepted for these pages and templates.
+  abbrev pub accepts : List Row → Bool
+  accepts rows = accepts_findings rows (round u rows templates pages)
 
--- ---- the search
+  -- ---- the search
 
-module _ (is_user : Text → Bool) (templates : List (Text × Tree)) (name : Option Text) (t : Tree) where
-  -- what breaks the rule, as a round by these rows says, each fault once
+  -- what breaks the rule, as a round by these rows says
   abbrev pub faults_by : List Row → List Fault
-  faults_by rows = with_faults [] (round is_user rows templates name t).faults
+  faults_by rows = (round u rows templates pages).faults
 
   -- the rows that so many rounds find
   abbrev pub searched : ℕ → List Row
   searched zero = []
-  searched (suc n) = with_rows (searched n) (round is_user (searched n) templates name t).rows
+  searched (suc n) = with_rows (searched n) (round u (searched n) templates pages).rows
 
   -- what the round after these says
   abbrev pub faults_after : ℕ → List Fault
@@ -66,62 +77,83 @@ module _ (is_user : Text → Bool) (templates : List (Text × Tree)) (name : Opt
 
   -- Whatever rows are accepted, these are among them.
   abbrev pub AreNeeded : List Row → Type 0
-  AreNeeded rows = (others : List Row) → accepts is_user others templates name t ≡ true → list_all (has_row others) rows ≡ true
+  AreNeeded rows = (others : List Row) → accepts others ≡ true → list_all (has_row others) rows ≡ true
 
 -- ---- verdicts
 
--- The tree keeps the rule; or it doesn't, for these faults; or the search went too far, and nothing is said.
+-- The pages keep the rule; or they don't, for these faults; or the search went too far, and nothing is said.
 pub data Verdict : Type 0 where
   no_faults : Verdict
   some_faults : List Fault → Verdict
   undecided : Verdict
 
--- In whichever order the rows are searched: they are accepted in the end, or what breaks the rule by rows that are needed is at
--- least one fault.
-abbrev pub IsVerdict : (Text → Bool) → List (Text × Tree) → Option Text → Tree → Verdict → Type 0
-IsVerdict is_user templates name t no_faults = (rows : List Row) × (accepts is_user rows templates name t ≡ true)
-IsVerdict is_user templates name t (some_faults xs) =
-    (rows : List Row) × AreNeeded is_user templates name t rows × (xs ≡ faults_by is_user templates name t rows) × (xs ≢ [])
-IsVerdict is_user templates name t undecided = Unit {0}
+-- In whichever order the rows are searched: they are accepted in the end; or the rows are needed, a round by them finds no other
+-- row, and finds what breaks the rule, which is at least one fault.
+abbrev pub IsVerdict : UserDefined → List (Text × Tree) → Pages → Verdict → Type 0
+IsVerdict u templates pages no_faults = (rows : List Row) × (accepts u templates pages rows ≡ true)
+IsVerdict u templates pages (some_faults xs) =
+    (rows : List Row) × AreNeeded u templates pages rows
+    × (list_all (has_row rows) (round u rows templates pages).rows ≡ true)
+    × (xs ≡ faults_by u templates pages rows) × (xs ≢ [])
+IsVerdict u templates pages undecided = Unit {0}
+
+-- what is said where these are all faults
+abbrev pub verdict_in : List Fault → Verdict
+verdict_in [] = no_faults
+verdict_in (x ∷ xs) = some_faults (x ∷ xs)
 
 -- ---- laws
 
--- Each registered template that is included, by these rows, is one of these.
-abbrev pub AreIncluded : Setting → List Row → List (Text × Tree) → Type 0
-AreIncluded p rows templates =
-    (n : Text) (h : Html) → has_entering rows n h ≡ true → (t : Tree) → p.parts.template n ≡ Some t → Contains templates (n, t)
+-- The table has each page: a source leads somewhere from the beginning of a document, and a template may be included there.
+abbrev pub PagesLead : Table html_rule → List (Text × Tree) → Pages → Type 0
+PagesLead table templates (source t) = Leads html_rule table t beginning (λ g. Unit {0})
+PagesLead table templates all_templates = AllByRecursion (λ x. table.enters x.0 beginning) templates
+
+-- All registered templates are among these.
+abbrev pub AreAll : (Text → Option Tree) → List (Text × Tree) → Type 0
+AreAll template templates = (n : Text) (t : Tree) → template n ≡ Some t → Contains templates (n, t)
+
+-- All of these templates are registered.
+abbrev pub AreRegistered : (Text → Option Tree) → List (Text × Tree) → Type 0
+AreRegistered template templates = (n : Text) (t : Tree) → Contains templates (n, t) → template n ≡ Some t
 
 -- What is accepted leads as the rule has it.
 abbrev pub IsRightToAccept : Setting → Type 0
 IsRightToAccept p =
-    (is_user : Text → Bool) (templates : List (Text × Tree)) (name : Option Text) (t : Tree) (rows : List Row)
-    → AreIncluded p rows templates → accepts is_user rows templates name t ≡ true
-    → Leads html_rule (table_of is_user rows) t beginning (λ g. Unit {0}) × IsClosed p html_rule (table_of is_user rows)
+    (u : UserDefined) (templates : List (Text × Tree)) (pages : Pages) (rows : List Row)
+    → AreAll p.parts.template templates
+    → accepts u templates pages rows ≡ true
+    → PagesLead (table_of (is_user_in u) rows) templates pages × IsClosed p html_rule (table_of (is_user_in u) rows)
+
+-- a tree that is checked as a page
+abbrev pub IsPage : (Text → Option Tree) → Pages → Tree → Type 0
+IsPage template (source s) t = s ≡ t
+IsPage template all_templates t = (n : Text) × (template n ≡ Some t)
 
 -- In each run of the tree, whatever the data, and however the run ends, data stands only where it may.
 abbrev pub KeepsDataSafeIn : Setting → Tree → Type 0
 KeepsDataSafeIn p t =
     (recursive : Bool) (ps : List Piece) (o : Outcome) → Means p t (first_state recursive) ps o → StandSafely ps
 
--- What is accepted keeps data safe, in a registry that escapes for html and has usual parts.
+-- The pages for which there is no fault keep data safe.
 abbrev pub AcceptedKeepDataSafe : Setting → Type 0
 AcceptedKeepDataSafe p =
-    p.parts.escape ≡ for_html → (is_user : Text → Bool) → IsUsual p is_user
-    → (templates : List (Text × Tree)) (name : Option Text) (t : Tree) (rows : List Row) → AreIncluded p rows templates
-    → accepts is_user rows templates name t ≡ true → KeepsDataSafeIn p t
+    (u : UserDefined) → Lists p.parts u → (templates : List (Text × Tree)) → AreAll p.parts.template templates
+    → (pages : Pages) → IsVerdict u templates pages no_faults → (t : Tree) → IsPage p.parts.template pages t
+    → KeepsDataSafeIn p t
 
--- If all leads as the rule has it by any table, then no number of rounds finds a fault. So a fault means that there is no such
--- table.
+-- If nothing user-defined breaks the rule, and all leads as the rule has it by any table, then no number of rounds finds a
+-- fault. So a fault means that there is no such table.
 abbrev pub IsRightToRefuse : Setting → Type 1
 IsRightToRefuse p =
-    (templates : List (Text × Tree)) → ((n : Text) (t : Tree) → Contains templates (n, t) → p.parts.template n ≡ Some t)
-    → (name : Option Text) (t : Tree) (table : Table html_rule) → IsClosed p html_rule table
-    → Leads html_rule table t beginning (λ g. Unit {0}) → (n : ℕ) → faults_after table.is_user templates name t n ≡ []
+    (u : UserDefined) → faults_of_registry u ≡ [] → (templates : List (Text × Tree))
+    → AreRegistered p.parts.template templates
+    → (table : Table html_rule) → table.is_user ≡ is_user_in u → IsClosed p html_rule table
+    → (pages : Pages) → PagesLead table templates pages → (n : ℕ) → faults_after u templates pages n ≡ []
 
--- If a tree is accepted, by any rows, then no rows that are needed show a fault, and so no number of rounds does.
+-- If pages are accepted, by any rows, then no rows that are needed show a fault, and so no number of rounds does.
 abbrev pub AcceptedHaveNoFaults : Type 0
 AcceptedHaveNoFaults =
-    (is_user : Text → Bool) (templates : List (Text × Tree)) (name : Option Text) (t : Tree)
-    → IsVerdict is_user templates name t no_faults
-    → ((xs : List Fault) → IsVerdict is_user templates name t (some_faults xs) → ⊥)
-    × ((n : ℕ) → faults_after is_user templates name t n ≡ [])
+    (u : UserDefined) (templates : List (Text × Tree)) (pages : Pages) → IsVerdict u templates pages no_faults
+    → ((xs : List Fault) → IsVerdict u templates pages (some_faults xs) → ⊥)
+    × ((n : ℕ) → faults_after u templates pages n ≡ [])

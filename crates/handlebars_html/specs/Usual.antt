@@ -1,18 +1,13 @@
 -- Settings of which the laws of rules speak: a registry with the helpers and the decorators that every registry begins with,
 -- and with user-defined helpers that give values.
-use Rattle.std.specs.Prelude.{◌≡◌, Bool, true, false, List, Some}
-use Rattle.handlebars_base.specs.Answers.{gives}
+use Rattle.std.specs.Prelude.{◌≡◌, Bool, true, false, Some}
 use Rattle.handlebars_base.specs.Bytes.{Text}
 use Rattle.handlebars_template.specs.Tree.{Tree}
 use Rattle.handlebars_helpers.specs.Callee.{user, first_callee}
 use Rattle.handlebars_helpers.specs.Decoration.{built_in_decorator}
-use Rattle.handlebars_helpers.specs.UserHelper.{HelperQuestion, Step, UserHelper}
+use Rattle.handlebars_helpers.specs.UserHelper.{GivesValues}
 use Rattle.handlebars_semantics.specs.State.{Setting, hook}
 use Rattle.handlebars_html.specs.Rule.{Rule, Table, Leads}
-
--- A user-defined helper has no steps, and so writes nothing but the value that it offers.
-abbrev pub GivesValues : UserHelper → Type 0
-GivesValues helper = (q : HelperQuestion) (steps : List Step) → helper.has_steps q (gives (Some steps)) → ⊥
 
 -- what is registered under a name: what every registry begins with, or a user-defined helper that gives values
 abbrev pub HelperIs : Setting → Bool → Text → Type 0

@@ -17,15 +17,15 @@ pub fn same_is_decided()
     ensures { DecidesSame }
 {}
 
-/// In a registry whose user-defined parts are functions: if the check finds no fault in them, nor in a tree, then in each run of
-/// the tree data stands only where it may, whatever the data, and however the run ends. What is said of other registries is in
-/// `AcceptedKeepDataSafe` and `HasUsualParts`, of which this is one case.
+/// In a registry whose user-defined parts are functions: if the check finds no fault, in what is user-defined or in the pages,
+/// then in each run of a page data stands only where it may, whatever the data, and however the run ends. What is said of other
+/// registries is in `AcceptedKeepDataSafe`, of which this is one case.
 pub fn checked_keep_data_safe()
     ensures { CheckedKeepDataSafe }
 {}
 
-/// If the check finds a fault in a tree, in whichever order it searches, then no rows are accepted for the tree. What is said of
-/// any table is in `IsRightToRefuse`.
+/// If the check finds a fault, in whichever order it searches, then no rows are accepted for the pages. What is said of any
+/// table is in `IsRightToRefuse`.
 pub fn accepted_have_no_faults()
     ensures { AcceptedHaveNoFaults }
 {}

@@ -1,0 +1,282 @@
+//! Faults in words for the author of a template: where data stands, and what to write instead.
+
+use crate::address::Value;
+use crate::fault::{HtmlFault, HtmlFaultReason};
+use crate::html::Html;
+use crate::plain::Plain;
+use crate::tokenizer::Tokenizer;
+use std::{fmt, str};
+
+// Where something stands: words, and the name of an element if they end with one.
+#[derive(Clone, Copy)]
+struct Place<'t> {
+    words: &'static str,
+    element: Option<&'t str>,
+}
+
+impl fmt::Display for Place<'_> {
+    fn fmt<W: fmt::Write>(&self, f: &mut fmt::Formatter<W>) -> fmt::Result {
+        match self.element {
+            Some(name) => write!(f, "{} `{}`", self.words, name),
+            None => f.write_str(self.words),
+        }
+    }
+}
+
+fn plain_words(state: Plain) -> &'static str {
+    match state {
+        Plain::Data => "in the text of an element",
+        Plain::TagOpen => "where the name of a tag begins",
+        Plain::EndTagOpen => "where the name of an end tag begins",
+        Plain::Declaration => "in a declaration",
+        Plain::DeclarationDash => "in a declaration",
+        Plain::Bogus => "in a declaration",
+        Plain::Script => "in the text of `script`",
+        Plain::ScriptTagOpen => "in the text of `script`",
+        Plain::TextEnd => "in an end tag",
+        Plain::Late => "after an attribute that changes what one before it means",
+        Plain::Stuck => "where nothing more is known",
+        _ => "in a comment",
+    }
+}
+
+fn plain_advice(state: Plain) -> &'static str {
+    match state {
+        Plain::Script => "write it in a `data-` attribute, and let the script read that",
+        Plain::ScriptTagOpen => "write it in a `data-` attribute, and let the script read that",
+        Plain::TagOpen => "write the name in the template",
+        Plain::EndTagOpen => "write the name in the template",
+        _ => "write it in the text of an element, or in an attribute in quotes",
+    }
+}
+
+fn value_words(value: &Value) -> &'static str {
+    match value {
+        Value::Harmless => "in an attribute in quotes",
+        Value::Forbidden => "in an attribute that may be code",
+        Value::Followed(text) => if text.is_empty() {
+            "at the beginning of an address"
+        } else {
+            "in an address that may still become a script"
+        },
+        Value::Loaded(text) => if text.is_empty() {
+            "at the beginning of an address that is loaded"
+        } else {
+            "in an address that is loaded, before its host"
+        },
+        Value::LoadedSlash => "at the beginning of an address that is loaded",
+        Value::LoadedAuthority => "in the host of an address that is loaded",
+        Value::LoadedHost => "in the host of an address that is loaded",
+    }
+}
+
+fn value_advice(value: &Value) -> &'static str {
+    match value {
+        Value::Harmless => "",
+        Value::Forbidden =>
+            "write it in another attribute, as in `title` or one that begins with `data-`",
+        Value::Followed(_) => "begin the address in the template, as with `/` or `https://`",
+        Value::Loaded(_) => "begin the address in the template, with its host",
+        Value::LoadedSlash => "begin the address in the template, with its host",
+        Value::LoadedAuthority => "write the host in the template, and a `/` after it",
+        Value::LoadedHost => "write the host in the template, and a `/` after it",
+    }
+}
+
+fn words_of(tokenizer: &Tokenizer) -> &'static str {
+    match tokenizer {
+        Tokenizer::Plain(state) => plain_words(*state),
+        Tokenizer::TagName(_, _) => "in the name of a tag",
+        Tokenizer::BeforeAttribute(_) => "where the name of an attribute begins",
+        Tokenizer::AttributeName(_, _) => "in the name of an attribute",
+        Tokenizer::AfterAttribute(_, _) => "where the name of an attribute begins",
+        Tokenizer::BeforeValue(_, _) => "in an attribute without quotes",
+        Tokenizer::Quoted(_, _, value) => value_words(value),
+        Tokenizer::Unquoted(_) => "in an attribute without quotes",
+        Tokenizer::InText(_, _) => "in the text of",
+        Tokenizer::TextTagOpen(_, _) => "in the text of",
+        Tokenizer::TextEndName(_) => "in an end tag",
+        Tokenizer::ScriptEndName(_) => "in the text of `script`",
+    }
+}
+
+fn element_of(tokenizer: &Tokenizer) -> Option<&str> {
+    let name = match tokenizer {
+        Tokenizer::InText(_, name) => name,
+        Tokenizer::TextTagOpen(_, name) => name,
+        _ => return None,
+    };
+    match str::from_utf8(name) {
+        Ok(name) => Some(name),
+        Err(_) => Some("an element"),
+    }
+}
+
+fn place_of(state: &Html) -> Place<'_> {
+    Place {
+        words: words_of(&state.tokenizer),
+        element: element_of(&state.tokenizer),
+    }
+}
+
+fn advice_at(state: &Html) -> &'static str {
+    match &state.tokenizer {
+        Tokenizer::Plain(state) => plain_advice(*state),
+        Tokenizer::TagName(_, _) => "write the name in the template",
+        Tokenizer::BeforeAttribute(_) =>
+            "write the name in the template, and data in quotes after `=`",
+        Tokenizer::AttributeName(_, _) => "write the name in the template",
+        Tokenizer::AfterAttribute(_, _) =>
+            "write the name in the template, and data in quotes after `=`",
+        Tokenizer::BeforeValue(_, _) => "write quotes around the value",
+        Tokenizer::Quoted(_, _, value) => value_advice(value),
+        Tokenizer::Unquoted(_) => "write quotes around the value",
+        Tokenizer::InText(_, _) => "write it in the text of another element",
+        Tokenizer::TextTagOpen(_, _) => "write it in the text of another element",
+        Tokenizer::TextEndName(_) => "write the end tag in the template",
+        Tokenizer::ScriptEndName(_) =>
+            "write it in a `data-` attribute, and let the script read that",
+    }
+}
+
+impl HtmlFaultReason {
+    /// Returns what to write instead, or an empty text if the reason says it.
+    pub fn advice(&self) -> &'static str {
+        match self {
+            HtmlFaultReason::UnsafeValue(state) => advice_at(state),
+            HtmlFaultReason::UnreadValue => "write what comes before it in another way",
+            HtmlFaultReason::UnescapedValue => "write two braces, not three or `&`",
+            HtmlFaultReason::ChangedText(_) => "begin the line elsewhere",
+            HtmlFaultReason::LateAttribute => "write that attribute first",
+            HtmlFaultReason::ChangedByIteration(_, _) =>
+                "close in the body what it opens, and open nothing that it leaves",
+            HtmlFaultReason::ChangedByBlock(_) => "close in the block what it opens",
+            HtmlFaultReason::CapturedTextIn(_) => "include it in the text of an element",
+            HtmlFaultReason::MadeInclusion => "write the name, one in each branch of a block",
+            HtmlFaultReason::MadeBlock => "write the name of a helper",
+            HtmlFaultReason::OtherIndent => "write blanks before the tag, or text on its line",
+            HtmlFaultReason::ExpressionBodies => "",
+            HtmlFaultReason::OtherEscape => "register the escape of html",
+            HtmlFaultReason::HelperWithSteps(_) => "register it as one that gives values alone",
+            HtmlFaultReason::MisplacedHelper(_) =>
+                "register the built-in helper under its own name",
+            HtmlFaultReason::UserHook(_) => "register it under another name",
+            HtmlFaultReason::UserDecorator(_) => "register `inline` alone",
+        }
+    }
+}
+
+/// Formats the reason in words for the author of a template.
+impl fmt::Display for HtmlFaultReason {
+    fn fmt<W: fmt::Write>(&self, f: &mut fmt::Formatter<W>) -> fmt::Result {
+        match self {
+            HtmlFaultReason::UnsafeValue(state) => write!(f, "a value stands {}", place_of(state)),
+            HtmlFaultReason::UnreadValue => f.write_str(
+                "a value stands after a text of which nothing more is known",
+            ),
+            HtmlFaultReason::UnescapedValue => f.write_str(
+                "an html expression writes its value unescaped",
+            ),
+            HtmlFaultReason::ChangedText(state) => {
+                write!(
+                    f,
+                    "a text stands {}, where a blank before it changes what it means",
+                    place_of(state)
+                )
+            }
+            HtmlFaultReason::LateAttribute => f.write_str(
+                "an attribute changes what one before it means, which holds data",
+            ),
+            HtmlFaultReason::ChangedByIteration(start, end) => {
+                write!(
+                    f,
+                    "an iteration begins {}, and ends {}",
+                    place_of(start),
+                    place_of(end)
+                )
+            }
+            HtmlFaultReason::ChangedByBlock(end) => write!(
+                f,
+                "the block of a partial call ends {}",
+                place_of(end)
+            ),
+            HtmlFaultReason::CapturedTextIn(state) => write!(
+                f,
+                "`@partial-block` is included {}",
+                place_of(state)
+            ),
+            HtmlFaultReason::MadeInclusion => f.write_str(
+                "a call in parentheses makes the name of a partial",
+            ),
+            HtmlFaultReason::MadeBlock => f.write_str(
+                "a call in parentheses makes the name of a block",
+            ),
+            HtmlFaultReason::OtherIndent => f.write_str(
+                "the indentation of a partial call has other bytes than blanks",
+            ),
+            HtmlFaultReason::ExpressionBodies => f.write_str("an expression has bodies"),
+            HtmlFaultReason::OtherEscape => f.write_str("values are not escaped for html"),
+            HtmlFaultReason::HelperWithSteps(name) => write!(
+                f,
+                "the helper {name:?} may write more than its value"
+            ),
+            HtmlFaultReason::MisplacedHelper(name) => write!(
+                f,
+                "not the built-in helper is registered under {name:?}"
+            ),
+            HtmlFaultReason::UserHook(name) => write!(f, "the hook {name:?} is user-defined"),
+            HtmlFaultReason::UserDecorator(name) => write!(
+                f,
+                "not the built-in decorator is registered under {name:?}"
+            ),
+        }
+    }
+}
+
+impl HtmlFaultReason {
+    // Whether it is a fault of what is registered beside templates.
+    fn is_of_registry(&self) -> bool {
+        match self {
+            HtmlFaultReason::OtherEscape => true,
+            HtmlFaultReason::HelperWithSteps(_) => true,
+            HtmlFaultReason::MisplacedHelper(_) => true,
+            HtmlFaultReason::UserHook(_) => true,
+            HtmlFaultReason::UserDecorator(_) => true,
+            _ => false,
+        }
+    }
+}
+
+impl HtmlFault {
+    // What has the fault: the template, by its name if it has one, or the registry.
+    fn subject(&self) -> &str {
+        match &self.template_name {
+            Some(name) => name.as_str(),
+            None => if self.reason.is_of_registry() {
+                "registry"
+            } else {
+                "template"
+            },
+        }
+    }
+}
+
+/// Formats one line: the name of the template (`template` if it has none, and `registry` for a fault of the registry), the
+/// position, if there is one, the reason, and what to write instead.
+impl fmt::Display for HtmlFault {
+    fn fmt<W: fmt::Write>(&self, f: &mut fmt::Formatter<W>) -> fmt::Result {
+        let subject = self.subject();
+        let reason = &self.reason;
+        match (self.line_no, self.column_no) {
+            (Some(line), Some(column)) => {
+                write!(f, "{subject} line {line}, col {column}: {reason}")?;
+            }
+            _ => write!(f, "{subject}: {reason}")?,
+        }
+        let advice = reason.advice();
+        if advice.is_empty() {
+            return Ok(());
+        }
+        write!(f, ": {advice}")
+    }
+}
