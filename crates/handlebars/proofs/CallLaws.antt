@@ -3,6 +3,7 @@ use Rattle.std.proofs.Common.{List}
 use Rattle.serde_json.specs.Data.{Data}
 use Rattle.handlebars_base.specs.Bytes.{Text}
 use Rattle.handlebars_helpers.specs.UserAnswers.{HaveOne, UserAnswers, Registrations}
+use Rattle.handlebars_html.proofs.CheckedAnswers.{keeps_answers_safe}
 use Rattle.handlebars_laws.proofs.RenamedRuns.{agrees_by_name}
 use Rattle.handlebars_markup.proofs.FixedMarkup.{two_runs}
 use Rattle.handlebars.specs.AnswerLaws.{SourceAnswerLaws, NamedAnswerLaws, ObeysLaws, ObeysLawsByName}
@@ -22,6 +23,7 @@ module _ {E : Type 0} (registered : E → Registrations) (user : E → UserAnswe
         origins = answer_has_origins _ _;
         stays = answer_stays _ _;
         agree = two_runs _ lawful _ (FromSource-one _ _);
+        safe = keeps_answers_safe _ _;
         by_name = agrees_by_name _ (options_of r) source;
       }
 
@@ -33,4 +35,5 @@ module _ {E : Type 0} (registered : E → Registrations) (user : E → UserAnswe
         origins = answer_has_origins _ _;
         stays = named_answer_stays _ _;
         agree = two_runs _ lawful _ (FromName-one _ _);
+        safe = keeps_answers_safe _ _;
       }

@@ -30,4 +30,6 @@ mod MarkupFaults
 mod MarkupNames
 mod MarkupOrder
 mod MarkupRead
+mod HtmlTemplates
+mod HtmlRead
 mod MetPremises

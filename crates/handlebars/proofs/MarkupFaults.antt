@@ -28,17 +28,17 @@ use Rattle.handlebars.specs.Markup.{NoSource, IsFaultOf, of_parts, of_source, of
 
 -- ---- elements of lists
 
-Contains-nil : {X : Type 0} {P : Type 0} (x : X) → Contains [] x → P
+pub Contains-nil : {X : Type 0} {P : Type 0} (x : X) → Contains [] x → P
 Contains-nil x h = let less = h.1 in absurd (omega arith)
 
-Contains-head : {X : Type 0} (x : X) (xs : List X) → Contains (x ∷ xs) x
+pub Contains-head : {X : Type 0} (x : X) (xs : List X) → Contains (x ∷ xs) x
 Contains-head x xs = Contains-append_left (x ∷ []) xs x (Contains-push [] x)
 
-Contains-after : {X : Type 0} (x : X) (xs : List X) (y : X) → Contains xs y → Contains (x ∷ xs) y
+pub Contains-after : {X : Type 0} (x : X) (xs : List X) (y : X) → Contains xs y → Contains (x ∷ xs) y
 Contains-after x xs y h = Contains-append_right (x ∷ []) xs y h
 
 -- the one element of a list
-Contains-one : {X : Type 0} (x y : X) → Contains (y ∷ []) x → y ≡ x
+pub Contains-one : {X : Type 0} (x y : X) → Contains (y ∷ []) x → y ≡ x
 Contains-one x y h = ⊎_elim (λ no. Contains-nil x no) (λ e. e) (Contains-push_cases [] y x h)
 
 -- what has no element is empty

@@ -101,7 +101,7 @@ names-unread read trees order = record {
 
 -- ---- other trees that are the same
 
-names-same : (trees others : Text → Option Tree) (ns : List Text) → ((n : Text) → trees n ≡ others n) → AreNamesOf trees ns
+pub names-same : (trees others : Text → Option Tree) (ns : List Text) → ((n : Text) → trees n ≡ others n) → AreNamesOf trees ns
     → AreNamesOf others ns
 names-same trees others ns same h = record { order = h.order; names = λ n. h.names n ∙ ap is_some (same n) }
 

@@ -11,4 +11,5 @@ pub mod Over
 pub mod AnswerLaws
 pub mod Readers
 pub mod Markup
+pub mod Html
 pub mod Moments

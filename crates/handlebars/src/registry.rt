@@ -18,6 +18,7 @@ mod calls;
 mod dev;
 mod emitting;
 mod files;
+mod html;
 mod markup;
 mod pieces;
 mod reading;
@@ -25,6 +26,7 @@ mod stored;
 mod writing;
 
 use crate::registry::dev::DevFiles;
+pub use crate::registry::html::HtmlSafety;
 pub use crate::registry::markup::Markup;
 use handlebars_base::error::TemplateError;
 use handlebars_helpers::decorators::entry::DecoratorEntryOf;

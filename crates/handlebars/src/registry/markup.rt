@@ -43,7 +43,7 @@ fn first_of(faults: Vec<MarkupFault>) -> Markup
 }
 
 // The names of a map of templates are in byte order, each once.
-fn names_are_in_order(templates: &BTreeMap<String, Template>)
+pub(crate) fn names_are_in_order(templates: &BTreeMap<String, Template>)
     ensures { AreInByteOrder (key_names templates.now.entries) }
 {
     let _count = templates.len();
