@@ -1,13 +1,14 @@
 //! The report of a run about a template.
 
 ghost use Rattle.std.specs.Prelude.{◌≡◌, ◌&&◌, IfOk, length, nat_eq, not};
+ghost use Rattle.hbs_check.specs.Verdicts.{is_clean};
 
 use crate::failure::Failure;
 use crate::listed::Listed;
 use crate::partials::{Partials, collect};
 use handlebars::{
-    BoxedEntries, DirectorySourceOptions, MarkupFault, NoFiles, Registry, Template, TemplateReader,
-    UserParts,
+    BoxedEntries, DirectorySourceOptions, HtmlFault, HtmlVerdict, MarkupFault, NoFiles, Registry,
+    Template, TemplateReader, UserParts,
 };
 use handlebars_markup::check::check_template;
 use std::alloc::Global;
@@ -15,16 +16,19 @@ use std::collections::BTreeSet;
 use std::io;
 use std::io::Write;
 
-/// What is asked for: the paths of a template and perhaps of a folder, and whether the mode is strict.
+/// What is asked for: the paths of a template and perhaps of a folder, whether the mode is strict, and whether it is asked where
+/// data stands in HTML.
 #[derive(Drop)]
 pub struct Request<'a> {
     pub strict: bool,
+    pub html: bool,
     pub template: &'a str,
     pub folder: Option<&'a str>,
 }
 
 /// Prints `fixed`, or each location that prevents fixed markup and each call of a partial that is not registered, one a line.
-/// Returns whether it printed `fixed`. The template is read first, then the folder.
+/// Returns whether it printed `fixed`. If it is asked where data stands in HTML, it is `safe`, or each location where data may
+/// stand elsewhere than where it is harmless. The template is read first, then the folder.
 pub fn check<'a, R: TemplateReader, O: Write>(
     alloc: Global,
     task: &Request<'a>,
@@ -38,8 +42,12 @@ pub fn check<'a, R: TemplateReader, O: Write>(
         register(folder, &mut registry, files)?;
     }
     let template = compile(alloc, source.as_str())?;
-    let faults = find_faults(alloc, &template, &registry)?;
     let missing = print_missing(alloc, &template, &registry, out)?;
+    if task.html {
+        let verdict = registry.template_html_faults(source.as_str(), &mut NoFiles)?;
+        return print_verdict(&verdict, missing, out);
+    }
+    let faults = find_faults(alloc, &template, &registry)?;
     print_locations(&faults, missing, out)
 }
 
@@ -127,6 +135,39 @@ fn print_locations<'a, O: Write>(
     }
     said(writeln!(out, "fixed"))?;
     Ok(true)
+}
+
+// Prints all locations, or that there are none and no partial is missing.
+fn print_verdict<'a, O: Write>(
+    verdict: &HtmlVerdict,
+    missing: bool,
+    out: &mut O,
+) -> Result<bool, Failure<'a>>
+    ensures safe { IfOk result (λ safe. safe ≡ (is_clean verdict.now && not missing)) }
+{
+    match verdict {
+        HtmlVerdict::NoFaults => {}
+        HtmlVerdict::Faults(faults) => {
+            print_faults(faults, out)?;
+            return Ok(false);
+        }
+        HtmlVerdict::Undecided => {
+            said(writeln!(out, "undecided: too many states"))?;
+            return Ok(false);
+        }
+    }
+    if missing {
+        return Ok(false);
+    }
+    said(writeln!(out, "safe"))?;
+    Ok(true)
+}
+
+fn print_faults<'a, O: Write>(faults: &Vec<HtmlFault>, out: &mut O) -> Result<(), Failure<'a>> {
+    for fault in faults {
+        said(writeln!(out, "{fault}"))?;
+    }
+    Ok(())
 }
 
 fn said<'a>(answer: io::Result<()>) -> Result<(), Failure<'a>> {

@@ -66,7 +66,7 @@ impl From<RenderError> for Failure<'_> {
 impl fmt::Display for Failure<'_> {
     fn fmt<W: fmt::Write>(&self, f: &mut fmt::Formatter<W>) -> fmt::Result {
         match self {
-            Failure::Usage => f.write_str("usage: hbs_check [--strict] TEMPLATE [FOLDER]"),
+            Failure::Usage => f.write_str("usage: hbs_check [--strict] [--html] TEMPLATE [FOLDER]"),
             Failure::CannotRead(path) => write!(f, "hbs_check: cannot read {path}"),
             Failure::CannotList(path) => write!(f, "hbs_check: cannot list {path}"),
             Failure::NotRegistered(cause) => write!(f, "{cause}"),

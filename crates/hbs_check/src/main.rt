@@ -1,5 +1,5 @@
-//! `hbs_check [--strict] TEMPLATE [FOLDER]`: prints whether the markup that a template writes is fixed, whatever the texts of
-//! its data are, or each location that prevents it.
+//! `hbs_check [--strict] [--html] TEMPLATE [FOLDER]`: prints whether the markup that a template writes is fixed, whatever the
+//! texts of its data are, or each location that prevents it; or whether data stands only where it is harmless in its HTML.
 #![tactic(auto)]
 
 mod arguments;

@@ -8,12 +8,14 @@ use handlebars::TemplateReader;
 use std::alloc::Global;
 use std::io::Write;
 
-/// Decides whether the markup of a template is fixed, and returns the exit status.
+/// Decides whether the markup of a template is fixed, or whether data stands only where it is harmless in its HTML, and returns
+/// the exit status.
 ///
 /// The first argument names the template, and an optional second one a folder of templates. `--strict` before them is accepted
-/// so that the arguments are those of `hbs`. It does not change the result.
+/// so that the arguments are those of `hbs`. It does not change the result. `--html` before them asks for where data stands in
+/// HTML.
 ///
-/// The status is 0 if the markup is fixed and all partials that are called by fixed names are registered, and 1 if not. It is 2
+/// The status is 0 if what is asked holds and all partials that are called by fixed names are registered, and 1 if not. It is 2
 /// if this can't be decided: for wrong arguments, for a file that can't be read, for a folder that can't be listed, for a
 /// template that is rejected, or when memory runs out. One line on `err` then reports why.
 pub fn run<'a, R: TemplateReader, O: Write, E: Write>(
@@ -55,15 +57,18 @@ fn checked<'a, R: TemplateReader, O: Write>(
     files: &mut R,
     out: &mut O,
 ) -> Result<bool, Failure<'a>> {
-    let (strict, arguments) = split_strict(arguments);
+    let (strict, arguments) = split_flag(arguments, "--strict");
+    let (html, arguments) = split_flag(arguments, "--html");
     let task = match arguments {
         [template] => Request {
             strict,
+            html,
             template: template.as_str(),
             folder: None,
         },
         [template, folder] => Request {
             strict,
+            html,
             template: template.as_str(),
             folder: Some(folder.as_str()),
         },
@@ -72,11 +77,11 @@ fn checked<'a, R: TemplateReader, O: Write>(
     check(alloc, &task, files, out)
 }
 
-// Whether the first argument is `--strict`, and the arguments that name files.
-fn split_strict(arguments: &[String]) -> (bool, &[String]) {
+// Whether the first argument is this flag, and the others.
+fn split_flag<'a>(arguments: &'a [String], flag: &str) -> (bool, &'a [String]) {
     match arguments.split_first() {
         Some((first, rest)) => {
-            if first.as_str() == "--strict" {
+            if first.as_str() == flag {
                 (true, rest)
             } else {
                 (false, arguments)
