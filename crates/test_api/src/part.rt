@@ -30,7 +30,7 @@ const FAILING: Failing = Failing {
 /// Returns the user-defined part that a step registers, if it registers one.
 pub fn part_of(alloc: Global, step: &JsonValue) -> Result<Option<Part>, Stop> {
     match text(step, "do") {
-        "parts.helper" => helper_part(alloc, step).map(Some),
+        "parts.helper" | "parts.value_helper" => helper_part(alloc, step).map(Some),
         "parts.decorator" => decorator_part(alloc, step),
         "parts.escape" => escape_part(alloc, step),
         _ => Ok(None),

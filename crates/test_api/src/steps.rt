@@ -4,6 +4,7 @@ mod blocks;
 mod elements;
 mod file;
 mod functions;
+mod html;
 mod line;
 mod markup;
 mod output;
@@ -65,7 +66,7 @@ fn of_group<R: Files + AllocGlobal + Clone + Drop>(
         "error" => error::answer(alloc, &mut state.error, call, step),
         "line" => line::answer(alloc, &mut state.rc, &mut state.out, call, step),
         "rc" | "blocks" => of_context(alloc, state, group, call, step),
-        "render" | "element" | "pieces" | "markup" => {
+        "render" | "element" | "pieces" | "markup" | "html" => {
             of_rendering(alloc, state, group, call, step)
         }
         _ => of_values(alloc, group, call, step),
@@ -115,6 +116,7 @@ fn of_rendering(
         "render" => render::answer(given, &mut state.rc, &mut state.out, call, step),
         "element" => elements::answer(given, &mut state.rc, call, step),
         "pieces" => pieces::answer(given, &mut state.pieces, call, step),
+        "html" => html::answer(alloc, given.registry, call, step),
         _ => markup::answer(alloc, given.registry, call, step),
     }
 }

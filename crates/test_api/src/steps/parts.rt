@@ -18,6 +18,7 @@ pub fn answer(
     let name = text(step, "name");
     match call {
         "helper" => user_helper(alloc, registry, script_parts, name),
+        "value_helper" => value_helper(alloc, registry, script_parts, name),
         "built_in" => built_in(
             alloc,
             registry,
@@ -46,6 +47,19 @@ fn user_helper(
 ) -> Answer {
     match script_parts.next_helper() {
         Some(helper) => register(alloc, registry, name, HelperEntry::Own(helper)),
+        None => Err(Stop::Field),
+    }
+}
+
+// A user-defined helper that is asked for its value alone.
+fn value_helper(
+    alloc: Global,
+    registry: &mut Registry,
+    script_parts: &mut ScriptParts,
+    name: &str,
+) -> Answer {
+    match script_parts.next_helper() {
+        Some(helper) => register(alloc, registry, name, HelperEntry::Value(helper)),
         None => Err(Stop::Field),
     }
 }
