@@ -36,7 +36,11 @@ SAFE = [
     "<p>{{lookup o \"y\"}}{{len x}}{{#if (eq x \"a\")}}{{x}}{{/if}}</p>",
     "<noscript><p>{{x}}</p></noscript><p>t</p>",
     "<h1>{{x}}</h1>\n  <p>\n    {{x}}\n  </p>\n",
-    "<video src=\"/v/{{x}}\"></video>",
+    "<video src=\"/v/{{x}}\" poster=\"/p/{{x}}\"></video>",
+    "<iframe src=\"https://example.org/{{x}}\"></iframe>",
+    "<link rel=\"icon\" href=\"https://example.org/{{x}}\">",
+    "<svg><title>{{x}}</title><text x=\"{{x}}\">{{x}}</text></svg><p>{{x}}</p>",
+    "{{#each k}}<p title=\"{{@key}}\">{{@key}}</p>{{/each}}",
     "<label for=\"{{x}}\">{{x}}</label>",
     "<blockquote cite=\"/c/{{x}}\">{{x}}</blockquote>",
 ]
@@ -63,16 +67,18 @@ UNSAFE = [
     ("<style>{{x}}</style>", "in the text of `style`", "body{background:url(/hit)}"),
     ("<svg><script>{{x}}</script></svg>", "in the text of", "top.hit()"),
     ("<meta http-equiv=\"refresh\" content=\"{{x}}\">", "in an attribute that may be code", "0;url=/hit"),
+    ("<meta content=\"{{x}}\" http-equiv=\"refresh\">", "an attribute changes what one before it means", "0;url=/hit"),
+    ("<script><!-- {{x}}</script>", "nothing more is known", "\ntop.hit()\n"),
     ("<p>{{{x}}}</p>", "an html expression writes its value unescaped", "<img src=x onerror=top.hit()>"),
     ("<p>{{&x}}</p>", "an html expression writes its value unescaped", "<img src=x onerror=top.hit()>"),
-    ("{{#if b}}<a href=\"{{/if}}{{x}}", "at the beginning of an address", "x"),
+    ("{{#if b}}<a href=\"{{/if}}{{x}}\">go</a>", "at the beginning of an address", "javascript:top.hit()"),
     ("{{#each xs}}<p title={{/each}}", "an iteration begins", "x"),
     ("{{#*inline \"p\"}}{{x}}{{/inline}}<p>{{> p}}</p><script>{{> p}}</script>", "in the text of `script`", "top.hit()"),
     ("<p title=\"{{#if b}}\" onclick=\"{{/if}}{{x}}\">t</p>", "in an attribute that may be code", "top.hit()"),
 ]
 
-# Those that show no breach in a browser: what is refused there isn't a value's effect on its own.
-WITHOUT_BREACH = {"{{#if b}}<a href=\"{{/if}}{{x}}", "{{#each xs}}<p title={{/each}}"}
+# Those that show no breach in a browser: what is refused there is no effect of a value on its own.
+WITHOUT_BREACH = {"{{#each xs}}<p title={{/each}}"}
 
 HARMLESS = "plain"
 
