@@ -116,6 +116,25 @@ def tags_within_4000_blocks_of_scope(size):
     return renders(b"{{> p0}}", b'{"a":7}', [(b"x", 20), (b"7", size // 5)], files)
 
 
+# ---- the check of HTML
+
+ITEM = b'<li class="row {{kind}}"><a href="/items/{{id}}?page={{page}}" title="{{title}}">{{title}}</a></li>\n'
+
+
+@sized(4_000, "templates")
+def check_of_html(size):
+    """Templates of 5 KB, of which each includes three others."""
+
+    def make(folder):
+        for it in range(size):
+            others = [b"{{> p%d}}\n" % min(size - 1, it + 1 + 17 * step) for step in range(3) if it + 1 < size]
+            put(folder + b"/p%d.hbs" % it, [b"<ul>\n", *others, (ITEM, 5_000 // len(ITEM)), b"</ul>\n"])
+
+    task = Task({"t.hbs": b"<!doctype html>{{> p0}}"}, ["--html", "t.hbs", "folder"], b"safe\n", folder=make)
+    task.program = "check"
+    return task
+
+
 # ---- folders
 
 
