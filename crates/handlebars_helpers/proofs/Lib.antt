@@ -6,4 +6,5 @@ mod FirstEntries
 mod Decorations
 mod Failed
 mod OneAnswer
+mod SafeUrls
 mod Named

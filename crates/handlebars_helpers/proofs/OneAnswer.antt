@@ -13,7 +13,7 @@ use Rattle.handlebars_helpers.specs.declared.decorators.entry.DecoratorEntryOf.T
 use Rattle.handlebars_helpers.specs.declared.escape.EscapeKindOf.{EscapeKindOf}
 use Rattle.handlebars_helpers.specs.declared.escape.EscapeKindOf.TheVariants as kind
 use Rattle.handlebars_helpers.specs.declared.user.entry.HelperEntryOf.{HelperEntryOf}
-use Rattle.handlebars_helpers.specs.declared.user.entry.HelperEntryOf.TheVariants.{Built, Own, Function, Value}
+use Rattle.handlebars_helpers.specs.declared.user.entry.HelperEntryOf.TheVariants.{Built, Own, Function, Value, SafeUrl}
 
 -- a fixed answer is the only one
 one-known : {A : Type 0} (k : Answer A) → HasOne (λ a. a ≡ k)
@@ -34,6 +34,7 @@ module _ {B F : Type 0} (has_steps : B → HelperQuestion → Answer (Option (Li
   user_at-once name (Some (Own h)) = record { steps = one_steps h; offer = one_offer h }
   user_at-once name (Some (Function f)) = record { steps = one_function_steps f; offer = one_function_offer f }
   user_at-once name (Some (Value h)) = record { steps = λ q. one-known _; offer = one_offer h }
+  user_at-once name (Some SafeUrl) = record { steps = λ q. one-known _; offer = λ q. one-known _ }
 
 module _ {D G : Type 0} (has_actions : D → DecoratorQuestion → Answer (List Action) → Type 0)
     (function_actions : G → DecoratorQuestion → Answer (List Action) → Type 0)

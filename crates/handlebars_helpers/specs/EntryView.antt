@@ -4,11 +4,12 @@ use Rattle.handlebars_base.specs.Answers.{Answer, gives}
 use Rattle.handlebars_base.specs.Bytes.{Text}
 use Rattle.handlebars_helpers.specs.ByNameView.{entry_at}
 use Rattle.handlebars_helpers.specs.Callee.{Callee, built, user}
+use Rattle.handlebars_helpers.specs.SafeUrl.{safe_url_helper}
 use Rattle.handlebars_helpers.specs.UserHelper.{HelperQuestion, Step, Offer, UserHelper, no_user_helper}
 use Rattle.handlebars_helpers.specs.View.{built_in_kind}
 use Rattle.handlebars_helpers.specs.declared.by_name.ByName.{ByName}
 use Rattle.handlebars_helpers.specs.declared.user.entry.HelperEntryOf.{HelperEntryOf}
-use Rattle.handlebars_helpers.specs.declared.user.entry.HelperEntryOf.TheVariants.{Built, Own, Function, Value}
+use Rattle.handlebars_helpers.specs.declared.user.entry.HelperEntryOf.TheVariants.{Built, Own, Function, Value, SafeUrl}
 
 module _ {B F : Type 0} where
   -- what an entry under this name is
@@ -17,6 +18,7 @@ module _ {B F : Type 0} where
   entry_callee name (Own h) = user name
   entry_callee name (Function f) = user name
   entry_callee name (Value h) = user name
+  entry_callee name SafeUrl = user name
 
   -- what is registered under a name, if anything is
   abbrev pub callees_of : ByName (HelperEntryOf B F) → Text → Option Callee
@@ -31,3 +33,4 @@ module _ {B F : Type 0} where
     user_at name (Some (Own h)) = record { has_steps = has_steps h; has_offer = has_offer h }
     user_at name (Some (Function f)) = record { has_steps = function_steps f; has_offer = function_offer f }
     user_at name (Some (Value h)) = record { has_steps = λ q a. a ≡ gives None; has_offer = has_offer h }
+    user_at name (Some SafeUrl) = safe_url_helper

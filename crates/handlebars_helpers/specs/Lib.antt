@@ -5,6 +5,7 @@ pub mod Params
 pub mod Boolean
 pub mod LogLine
 pub mod UserHelper
+pub mod SafeUrl
 pub mod Choice
 pub mod Callee
 pub mod View

@@ -15,6 +15,7 @@ ghost use Rattle.handlebars_helpers.specs.EscapeView.{escaping_of};
 ghost use Rattle.handlebars_helpers.specs.Escaping.{for_html};
 ghost use Rattle.handlebars_helpers.specs.UserAnswers.{HaveOne, UserAnswers, Registrations};
 ghost use Rattle.handlebars_helpers.specs.UserHelper.{GivesValues};
+ghost use Rattle.handlebars_helpers.specs.SafeUrl.{GivesUrls};
 ghost use Rattle.handlebars_helpers.specs.UserView.{IsOneOf, helper_question_of, callee_of, offer_of, steps_of};
 
 use crate::by_name::ByName;
@@ -26,6 +27,7 @@ use crate::decorators::{DecoratorKind, DecoratorResult};
 use crate::escape::def::EscapeFn;
 use crate::escape::{EscapeKindOf, EscapePart, Escaping};
 use crate::first::{built_in_decorators, built_in_helpers};
+use crate::safe_url::safe_url_offer;
 use crate::user::def::HelperDef;
 use crate::user::entry::{HelperEntryOf, HelperPart};
 use crate::user::function::FnHelper;
@@ -120,6 +122,11 @@ pub trait UserParts: Drop {
     fn gives_values(&self, name: &str) -> bool
         ensures { OnTrue result (GivesValues ((user self.now).helper name.now)) };
 
+    /// Returns whether the user-defined helper under a name is known to give values alone, each of which is written
+    /// as an address that runs no script.
+    fn gives_urls(&self, name: &str) -> bool
+        ensures { OnTrue result (GivesUrls ((user self.now).helper name.now)) };
+
     /// Returns how values are escaped.
     fn escape(&self) -> Escaping
         ensures { escaping_of result ≡ (registered self.now).escape };
@@ -204,6 +211,7 @@ impl<B: HelperPart, F: HelperPart, D: DecoratorPart, G: DecoratorPart, X: Escape
             Some(HelperEntryOf::Own(_)) => Some(Callee::User),
             Some(HelperEntryOf::Function(_)) => Some(Callee::User),
             Some(HelperEntryOf::Value(_)) => Some(Callee::User),
+            Some(HelperEntryOf::SafeUrl) => Some(Callee::User),
             None => None,
         }
     }
@@ -228,6 +236,18 @@ impl<B: HelperPart, F: HelperPart, D: DecoratorPart, G: DecoratorPart, X: Escape
     fn gives_values(&self, name: &str) -> bool {
         match self.helpers.get(name) {
             Some(HelperEntryOf::Value(_)) => true,
+            Some(HelperEntryOf::SafeUrl) => true,
+            Some(HelperEntryOf::Own(_)) => false,
+            Some(HelperEntryOf::Function(_)) => false,
+            Some(HelperEntryOf::Built(_)) => false,
+            None => false,
+        }
+    }
+
+    fn gives_urls(&self, name: &str) -> bool {
+        match self.helpers.get(name) {
+            Some(HelperEntryOf::SafeUrl) => true,
+            Some(HelperEntryOf::Value(_)) => false,
             Some(HelperEntryOf::Own(_)) => false,
             Some(HelperEntryOf::Function(_)) => false,
             Some(HelperEntryOf::Built(_)) => false,
@@ -251,6 +271,7 @@ impl<B: HelperPart, F: HelperPart, D: DecoratorPart, G: DecoratorPart, X: Escape
             Some(HelperEntryOf::Own(def)) => def.steps(h, given, changed, strict),
             Some(HelperEntryOf::Function(f)) => f.steps(h, given, changed, strict),
             Some(HelperEntryOf::Value(_)) => Ok(None),
+            Some(HelperEntryOf::SafeUrl) => Ok(None),
             Some(HelperEntryOf::Built(_)) => Err(no_helper(self.alloc, name)),
             None => Err(no_helper(self.alloc, name)),
         }
@@ -268,6 +289,7 @@ impl<B: HelperPart, F: HelperPart, D: DecoratorPart, G: DecoratorPart, X: Escape
             Some(HelperEntryOf::Own(def)) => def.offer(h, given, changed, strict),
             Some(HelperEntryOf::Function(f)) => f.offer(h, given, changed, strict),
             Some(HelperEntryOf::Value(def)) => def.offer(h, given, changed, strict),
+            Some(HelperEntryOf::SafeUrl) => safe_url_offer(self.alloc, h, strict),
             Some(HelperEntryOf::Built(_)) => Err(no_helper(self.alloc, name)),
             None => Err(no_helper(self.alloc, name)),
         }

@@ -13,5 +13,6 @@ mod first;
 pub mod fn_error;
 pub mod iteration;
 pub mod log_line;
+pub mod safe_url;
 pub mod user;
 pub mod view;

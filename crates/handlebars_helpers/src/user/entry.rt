@@ -24,6 +24,8 @@ pub enum HelperEntryOf<B, F> {
     Function(F),
     /// A user-defined helper that is asked for its value alone. Its `call` is never called, so it writes nothing else.
     Value(B),
+    /// The helper that returns its first parameter if that is an address that runs no script, and otherwise `#`.
+    SafeUrl,
 }
 
 /// What is registered under a helper's name.
