@@ -4,7 +4,7 @@ use Rattle.std.specs.List.{list_all}
 use Rattle.std.proofs.lemmas.Bool.{eqb-true}
 use Rattle.handlebars_base.specs.Bytes.{Text}
 use Rattle.handlebars_html.specs.Addresses.{harmless, forbidden, followed, loaded, loaded_slash, loaded_authority, loaded_host}
-use Rattle.handlebars_html.specs.Tokenizer.{Tokenizer, quoted, text_end_name, script_end_name, next}
+use Rattle.handlebars_html.specs.Tokenizer.{Tokenizer, quoted, in_url, text_end_name, script_end_name, next}
 use Rattle.handlebars_html.specs.Html.{Html, step, after, is_unmarked, is_blank}
 use Rattle.handlebars_html.proofs.Data.{both, after-append}
 
@@ -29,6 +29,8 @@ newline-blank (quoted false tag (loaded (c ∷ t))) = (refl, refl)
 newline-blank (quoted false tag loaded_slash) = (refl, refl)
 newline-blank (quoted false tag loaded_authority) = (refl, refl)
 newline-blank (quoted false tag loaded_host) = (refl, refl)
+newline-blank (in_url true tag) = (refl, refl)
+newline-blank (in_url false tag) = (refl, refl)
 newline-blank (text_end_name []) = (refl, refl)
 newline-blank (text_end_name (c ∷ cs)) = (refl, refl)
 newline-blank (script_end_name []) = (refl, refl)
@@ -57,6 +59,8 @@ space-blank (quoted false tag (loaded (c ∷ t))) = (refl, refl, refl)
 space-blank (quoted false tag loaded_slash) = (refl, refl, refl)
 space-blank (quoted false tag loaded_authority) = (refl, refl, refl)
 space-blank (quoted false tag loaded_host) = (refl, refl, refl)
+space-blank (in_url true tag) = (refl, refl, refl)
+space-blank (in_url false tag) = (refl, refl, refl)
 space-blank (text_end_name []) = (refl, refl, refl)
 space-blank (text_end_name (c ∷ cs)) = (refl, refl, refl)
 space-blank (script_end_name []) = (refl, refl, refl)
@@ -74,7 +78,7 @@ blank_is b h = by (b == 32) (b == 9) refl refl h
     by false true i j e = inr (eqb-true b 9 j)
     by false false i j e = cc
 
-after-blanks : (h : Html) → step h 32 ≡ h → step h 9 ≡ h → (t : Text) → list_all is_blank t ≡ true → after h t ≡ h
+pub after-blanks : (h : Html) → step h 32 ≡ h → step h 9 ≡ h → (t : Text) → list_all is_blank t ≡ true → after h t ≡ h
 after-blanks h x y [] is = refl
 after-blanks h x y (b ∷ t) is =
     let each = both (is_blank b) (list_all is_blank t) is in

@@ -5,7 +5,7 @@ use Rattle.handlebars_base.specs.Bytes.{Text}
 use Rattle.handlebars_template.specs.Tree.{Tree, Element, raw_string, html_expression, helper_block, partial_expression, partial_block, decorator_block, Call, call, decorator, args, no_arguments, no_params, no_hash, param, name, literal, no_binding, bodies, no_body, body}
 use Rattle.handlebars_html.specs.Tokenizer.{next}
 use Rattle.handlebars_html.specs.Html.{Html, beginning, step, is_safe}
-use Rattle.handlebars_html.specs.Rule.{Table, effect_named, Leads, BlockLeads, BodiesLead}
+use Rattle.handlebars_html.specs.Rule.{as_first, Table, effect_named, Leads, BlockLeads, BodiesLead}
 use Rattle.handlebars_html.specs.Safety.{html_rule}
 use Rattle.handlebars_html.specs.Sample.{empty_table, page, x_value, IsSafePage}
 
@@ -34,29 +34,29 @@ some-text n m is = cc
 
 block-leads : (helper : Text) (es : List Element) (h : Html) (end : Html → Type 0)
     → BlockLeads html_rule empty_table (block_call helper es) h end
-    → BodiesLead html_rule empty_table (bodies (body (page es)) no_body) (effect_named empty_table.is_user helper) h end
+    → BodiesLead html_rule empty_table (bodies (body (page es)) no_body) (effect_named empty_table.registered helper) h end
 block-leads helper es h end is =
-    subst (λ (m : Text). BodiesLead html_rule empty_table (bodies (body (page es)) no_body) (effect_named empty_table.is_user m) h end)
+    subst (λ (m : Text). BodiesLead html_rule empty_table (bodies (body (page es)) no_body) (effect_named empty_table.registered m) h end)
     (sym (some-text helper is.0 is.1)) is.2
 
 -- `<option {{#if x}}selected{{/if}}>{{x}}</option>`: the two branches needn't meet in one state.
 branches_are_safe : IsSafePage (page (text (codes "<option ") ∷ block (codes "if") (text (codes "selected") ∷ []) ∷
     text (codes ">") ∷ x_value ∷ text (codes "</option>") ∷ []))
 unfolding next step
-branches_are_safe = (tt, ((refl, refl), (tt, (codes "if", refl, ((tt, ((refl, refl), (tt, ((refl, refl), (tt, ((refl, refl), (tt, ((refl, refl), tt)), tt, tt)))))), (tt, ((refl, refl), (tt, ((refl, refl), (tt, ((refl, refl), tt)), tt, tt)))))))))
+branches_are_safe = (tt, ((refl, refl), (tt, (codes "if", refl, ((tt, ((refl, refl), (tt, ((refl, refl), (tt, (((refl, refl), (tt, ((refl, refl), tt))), tt, tt)))))), (tt, ((refl, refl), (tt, (((refl, refl), (tt, ((refl, refl), tt))), tt, tt)))))))))
 
 -- `<a href="{{#if x}}/a{{/if}}{{x}}">`: without the branch the address isn't begun.
 one_branch_is_not_safe : IsSafePage (page (text (codes "<a href=\"") ∷ block (codes "if") (text (codes "/a") ∷ []) ∷
     x_value ∷ text (codes "\">") ∷ [])) → ⊥
 unfolding next step
 one_branch_is_not_safe h =
-    let leads = block-leads (codes "if") (text (codes "/a") ∷ []) _ _ h.1.1.1 in false-true leads.1.1.0.1
+    let leads = block-leads (codes "if") (text (codes "/a") ∷ []) _ _ h.1.1.1 in false-true leads.1.1.0.0.1
 
 -- `<ul>{{#each x}}<li class="{{x}}">{{x}}</li>{{/each}}</ul>`
 iterations_are_safe : IsSafePage (page (text (codes "<ul>") ∷ block (codes "each") (text (codes "<li class=\"") ∷ x_value ∷
     text (codes "\">") ∷ x_value ∷ text (codes "</li>") ∷ []) ∷ text (codes "</ul>") ∷ []))
 unfolding next step
-iterations_are_safe = (tt, ((refl, refl), (tt, (codes "each", refl, ((tt, ((refl, refl), tt)), (tt, ((refl, refl), (tt, ((refl, refl), (tt, ((refl, refl), (tt, ((refl, refl), (tt, ((refl, refl), refl)), tt, tt)))), tt, tt)))), (tt, ((refl, refl), tt)))))))
+iterations_are_safe = (tt, ((refl, refl), (tt, (codes "each", refl, ((tt, ((refl, refl), tt)), (tt, ((refl, refl), (tt, (((refl, refl), (tt, ((refl, refl), (tt, (((refl, refl), (tt, ((refl, refl), refl))), tt, tt))))), tt, tt)))), (tt, ((refl, refl), tt)))))))
 
 -- `{{#each x}}<p {{/each}}`: an iteration ends in another state than it begins in.
 iteration_elsewhere_is_not_safe : IsSafePage (page (block (codes "each") (text (codes "<p ") ∷ []) ∷ [])) → ⊥
@@ -67,13 +67,13 @@ iteration_elsewhere_is_not_safe h =
 -- `{{{x}}}` is not escaped.
 html_is_not_safe : IsSafePage (page (html_expression (call (name (codes "x")) no_arguments no_binding (bodies no_body no_body)
     record { block = false; chain = false; indent_before_write = false }) ∷ [])) → ⊥
-html_is_not_safe h = false-true h.1.0.0
+html_is_not_safe h = false-true h.1.0.0.0
 
 -- ---- partials
 
 -- the table in which each partial leads from markup to markup
 abbrev markup_table : Table html_rule
-markup_table = record { is_user = λ n. false; enters = λ n h. h ≡ beginning; leaves = λ n h g. g ≡ beginning }
+markup_table = record { registered = λ n. as_first; enters = λ n h. h ≡ beginning; leaves = λ n h g. g ≡ beginning }
 
 abbrev LeadsToMarkup : Tree → Type 0
 LeadsToMarkup t = Leads html_rule markup_table t beginning (λ g. g ≡ beginning)
@@ -103,7 +103,7 @@ heading = text (codes "<h1>") ∷ x_value ∷ text (codes "</h1>") ∷ []
 
 heading_leads : LeadsToMarkup (page heading)
 unfolding next step
-heading_leads = (tt, ((refl, refl), (tt, ((refl, refl), (tt, ((refl, refl), refl)), tt, tt))))
+heading_leads = (tt, ((refl, refl), (tt, (((refl, refl), (tt, ((refl, refl), refl))), tt, tt))))
 
 -- `{{#*inline "heading"}}<h1>{{x}}</h1>{{/inline}}<svg width="{{x}}"></svg>`
 abbrev drawing : List Element
@@ -114,7 +114,7 @@ unfolding next step
 drawing_leads = (
   tt,
   (
-    (tt, ((refl, refl), (tt, ((refl, refl), (tt, ((refl, refl), refl)), tt, tt)))),
+    (tt, ((refl, refl), (tt, (((refl, refl), (tt, ((refl, refl), refl))), tt, tt)))),
     λ m is g at. subst (λ (h : Html). Leads html_rule markup_table (page heading) h (λ g. g ≡ beginning)) (sym at) heading_leads,
   ),
 )

@@ -1,7 +1,8 @@
 -- Blocks and expressions that lead as a rule has it go on so.
-use Rattle.std.proofs.Common.{◌≡◌, ℕ, ◌+◌, Bool, true, false, List, [], ◌∷◌, refl, sym, ◌∙◌, subst, Option, None, Some}
+use Rattle.std.proofs.Common.{◌≡◌, ℕ, ◌+◌, Bool, true, false, not, ◌&&◌, List, [], ◌∷◌, refl, sym, ap, ◌∙◌, subst, Option, None, Some}
 use Rattle.handlebars_base.specs.Answers.{gives}
 use Rattle.handlebars_base.specs.Bytes.{Text}
+use Rattle.handlebars_base.specs.Optional.{with_or}
 use Rattle.handlebars_base.specs.Scoped.{Found, walked, value, missing}
 use Rattle.serde_json.specs.Data.{Data}
 use Rattle.handlebars_template.specs.Tree.{Tree, Call, call, call_name, call_args, call_body, call_inverse, call_marks, is_value, bodies, Body, no_body, body}
@@ -16,12 +17,12 @@ use Rattle.handlebars_semantics.specs.Occurrences.{as_part, as_iteration, TreeOc
 use Rattle.handlebars_semantics.specs.Questions.{value_of, view_of, helper_of, called_as, hook_for, choice_of, IsAnswered}
 use Rattle.handlebars_semantics.specs.State.{Setting, State, push_frame, with_nearest, nearest_variables}
 use Rattle.handlebars_semantics.specs.Steps.{Prog, return, ◌>>=◌, ◌>>◌}
-use Rattle.handlebars_html.specs.Rule.{Rule, Table, Effect, one_branch, iterations, a_value, no_output, effect_named, IsNamed, LacksBody, ExpressionLeads, BlockLeads, BodiesLead, BranchLeads}
+use Rattle.handlebars_html.specs.Rule.{Rule, Table, Effect, one_branch, iterations, a_value, no_output, effect_named, written_name, are_urls, writes_url, IsNamed, LacksBody, ValueLeads, ExpressionLeads, BlockLeads, BodiesLead, BranchLeads}
 use Rattle.handlebars_html.specs.Usual.{IsUsual}
-use Rattle.handlebars_html.proofs.Effects.{Fits, IsNoSteps}
+use Rattle.handlebars_html.proofs.Effects.{Fits, IsNoSteps, IsUrl}
 use Rattle.handlebars_html.proofs.Plans.{Meaning, IsWellFrame, Plan}
-use Rattle.handlebars_html.proofs.Programs.{Goes, blocks-well, nearest-well, answer-goes, return-goes, same-goes, no_value-goes, in_scope_frame-goes, on_line-goes, render_branch-goes, write_value-goes, write_boolean_text-goes}
-use Rattle.handlebars_html.proofs.Targets.{IsBuilt, called-block, called-expression, helper_of-built, hook_for-none, view-named}
+use Rattle.handlebars_html.proofs.Programs.{Goes, blocks-well, nearest-well, answer-goes, return-goes, same-goes, no_value-goes, in_scope_frame-goes, on_line-goes, no_url-goes, render_branch-goes, write_value-goes, write_url-goes, write_boolean_text-goes}
+use Rattle.handlebars_html.proofs.Targets.{IsBuilt, called-url, called-block, called-expression, helper_of-built, hook_for-none, view-named}
 
 -- ---- frames without partials
 
@@ -160,10 +161,10 @@ module _ (p : Setting) (rule : Rule) (table : Table rule) (meaning : Meaning p r
 
   -- ---- calls
 
-  module _ (usual : IsUsual p table.is_user) where
+  module _ (usual : IsUsual p table.registered) where
     -- what is called chooses what fits, and that is executed
     chosen-goes : (e : Bool) (end : rule.Known → Type 0) (h : rule.Known) (occurrence : Occurrence) (k : Target) (v : HelperView)
-        (fits : Choice → Type 0) → IsBuilt p table.is_user usual fits k
+        (fits : Choice → Type 0) → IsBuilt p table.registered usual fits k
         → ((c : Choice) → fits c → (s : State) → Goes p rule table meaning e end h s (execute occurrence v c)) → (s : State)
         → Goes p rule table meaning e end h s (render_chosen occurrence k v)
     unfolding ◌>>=◌
@@ -177,83 +178,138 @@ module _ (p : Setting) (rule : Rule) (table : Table rule) (meaning : Meaning p r
         let c : Call = call n xs b (bodies x y) marks in
         answer-goes p rule table meaning last h s (view_of n xs) _ (λ v viewed.
         answer-goes p rule table meaning last h s (called_as true c v) _ (λ k called.
-        let named = view-named p table.is_user usual s w.local n xs v viewed in
+        let named = view-named p table.registered usual s w.local n xs v viewed in
         let same : v.name ≡ leads.0 = subst (λ (o : Option Text). IsNamed o v.name) leads.1 named in
         on_line-goes p rule table meaning true end h s (line_in marks.indent_before_write)
         (render_chosen occurrence k.0 (view_with_bodies true c k.1))
-        (chosen-goes true end h occurrence k.0 (view_with_bodies true c k.1) (Fits (effect_named table.is_user v.name))
-        (called-block p table.is_user usual s w.local c v k called)
-        (λ choice fit z. execute-block end h occurrence (view_with_bodies true c k.1) refl (effect_named table.is_user v.name)
-        (subst (λ (m : Text). BodiesLead rule table (bodies x y) (effect_named table.is_user m) h end) (sym same) leads.2) choice fit z) _)
+        (chosen-goes true end h occurrence k.0 (view_with_bodies true c k.1) (Fits (effect_named table.registered v.name))
+        (called-block p table.registered usual s w.local c v k called)
+        (λ choice fit z. execute-block end h occurrence (view_with_bodies true c k.1) refl (effect_named table.registered v.name)
+        (subst (λ (m : Text). BodiesLead rule table (bodies x y) (effect_named table.registered m) h end) (sym same) leads.2) choice fit z) _)
         w last next g))
 
     module _ (e : Bool) (end : rule.Known → Type 0) (h : rule.Known) (occurrence : Occurrence) (c : Call)
-        (leads : ExpressionLeads rule table c e h end) where
-      lacks : (d : Call) → ExpressionLeads rule table d e h end → LacksBody (call_body d) × LacksBody (call_inverse d)
-      lacks (call n xs b (bodies x y) marks) is = (is.2, is.3)
+        (may : rule.MayValue e h) (is_end : end (rule.after_value e h)) (lacks : LacksBody (call_body c) × LacksBody (call_inverse c))
+      where
+        executed : (v : CallView) (choice : Choice) → IsNoSteps choice → (s : State)
+            → Goes p rule table meaning e end h s (execute occurrence (view_with_bodies false c v) choice)
+        executed v choice lone s =
+            execute-expression e end h occurrence (view_with_bodies false c v) refl may is_end
+            lacks.0 lacks.1 choice lone s
 
-      may : (d : Call) → ExpressionLeads rule table d e h end → rule.MayValue e h × end (rule.after_value e h)
-      may (call n xs b (bodies x y) marks) is = (is.0, is.1)
+        helped-goes : (k : Target) (v : CallView) (s : State) → IsBuilt p table.registered usual IsNoSteps k
+            → Goes p rule table meaning e end h s (render_helped occurrence false c k v)
+        helped-goes k v s is_built =
+            on_line-goes p rule table meaning e end h s (line_in (call_marks c).indent_before_write)
+            (render_chosen occurrence k (view_with_bodies false c v))
+            (chosen-goes e end h occurrence k (view_with_bodies false c v) IsNoSteps is_built (executed v) _)
 
-      executed : (v : CallView) (choice : Choice) → IsNoSteps choice → (s : State)
-          → Goes p rule table meaning e end h s (execute occurrence (view_with_bodies false c v) choice)
-      executed v choice lone s =
-          execute-expression e end h occurrence (view_with_bodies false c v) refl (may c leads).0 (may c leads).1
-          (lacks c leads).0 (lacks c leads).1 choice lone s
+        render_hook-goes : (s : State) (v : CallView) (o : Option Target) → ((k : Target) → o ≡ Some k → ⊥)
+            → Goes p rule table meaning e end h s (render_hook occurrence c v o)
+        render_hook-goes s v None never =
+            no_value-goes p rule table meaning e end h s (return tt) may is_end
+            (return-goes p rule table meaning e (λ g. g ≡ h) h s refl)
+        render_hook-goes s v (Some k) never = absurd (never k refl)
 
-      helped-goes : (k : Target) (v : CallView) (s : State) → IsBuilt p table.is_user usual IsNoSteps k
-          → Goes p rule table meaning e end h s (render_helped occurrence false c k v)
-      helped-goes k v s is_built =
-          on_line-goes p rule table meaning e end h s (line_in (call_marks c).indent_before_write)
-          (render_chosen occurrence k (view_with_bodies false c v))
-          (chosen-goes e end h occurrence k (view_with_bodies false c v) IsNoSteps is_built (executed v) _)
+        render_found-goes : (s : State) (v : CallView) (found : Found)
+            → Goes p rule table meaning e end h s (render_found occurrence c v found)
+        unfolding ◌>>=◌
+        render_found-goes s v (walked d names) =
+            write_value-goes p rule table meaning e end h s occurrence (walked d names) may is_end
+        render_found-goes s v (value d) =
+            write_value-goes p rule table meaning e end h s occurrence (value d) may is_end
+        render_found-goes s v missing = λ w last next g.
+            answer-goes p rule table meaning last h s (hook_for (call_name c)) _ (λ o is.
+            render_hook-goes s v o (λ k same. hook_for-none p table.registered usual s (call_name c) k
+            (subst (λ (x : Option Target). IsAnswered p s (hook_for (call_name c)) (gives x)) same is)) w last next g)
 
-      render_hook-goes : (s : State) (v : CallView) (o : Option Target) → ((k : Target) → o ≡ Some k → ⊥)
-          → Goes p rule table meaning e end h s (render_hook occurrence c v o)
-      render_hook-goes s v None never =
-          no_value-goes p rule table meaning e end h s (return tt) (may c leads).0 (may c leads).1
-          (return-goes p rule table meaning e (λ g. g ≡ h) h s refl)
-      render_hook-goes s v (Some k) never = absurd (never k refl)
+        render_lone_as-goes : (s : State) → ((n : Text) → s.local n ≡ None) → (v : CallView) (o : Option Target)
+            → IsAnswered p s (helper_of v.name) (gives o) → Goes p rule table meaning e end h s (render_lone_as occurrence c v o)
+        unfolding ◌>>=◌
+        render_lone_as-goes s local v None is = λ w last next g.
+            answer-goes p rule table meaning last h s (value_of (call_name c)) _ (λ found has.
+            render_found-goes s v found w last next g)
+        render_lone_as-goes s local v (Some k) is =
+            helped-goes k v s (helper_of-built p table.registered usual s local v.name k is)
 
-      render_found-goes : (s : State) (v : CallView) (found : Found)
-          → Goes p rule table meaning e end h s (render_found occurrence c v found)
+        render_lone-goes : (s : State) → Goes p rule table meaning e end h s (render_lone occurrence c)
+        unfolding ◌>>=◌
+        render_lone-goes s w last next g =
+            answer-goes p rule table meaning last h s (view_of (call_name c) (call_args c)) _ (λ v viewed.
+            answer-goes p rule table meaning last h s (helper_of v.name) _ (λ o is.
+            render_lone_as-goes s w.local v o is w last next g))
+
+        render_called-goes : (s : State) → Goes p rule table meaning e end h s (render_call occurrence false c)
+        unfolding ◌>>=◌
+        render_called-goes s w last next g =
+            answer-goes p rule table meaning last h s (view_of (call_name c) (call_args c)) _ (λ v viewed.
+            answer-goes p rule table meaning last h s (called_as false c v) _ (λ k is.
+            helped-goes k.0 k.1 s (called-expression p table.registered usual s w.local c v k is) w last next g))
+
+        render_expression-as : (b : Bool) → is_value c ≡ b → (s : State)
+            → Goes p rule table meaning e end h s (render_expression occurrence c)
+        render_expression-as true is s w last next g = rw is (render_lone-goes s w last next g)
+        render_expression-as false is s w last next g = rw is (render_called-goes s w last next g)
+
+        render_value-goes : (s : State) → Goes p rule table meaning e end h s (render_expression occurrence c)
+        render_value-goes s = render_expression-as (is_value c) refl s
+
+    -- ---- expressions that write addresses
+
+    module _ (end : rule.Known → Type 0) (h : rule.Known) (occurrence : Occurrence) (c : Call) (may : rule.MayUrl h)
+        (is_end : end (rule.after_url h)) where
+      execute-url : (v : HelperView) (choice : Choice) → IsUrl choice → (s : State)
+          → Goes p rule table meaning true end h s (execute occurrence v choice)
+      execute-url v (the_value d) is s = write_url-goes p rule table meaning end h s occurrence (value d) is may is_end
+      execute-url v nothing is s =
+          no_url-goes p rule table meaning end h s (execute occurrence v nothing) may is_end
+          (return-goes p rule table meaning true (λ g. g ≡ h) h s refl)
+      execute-url v choice is s = absurd is
+
+      render_url-goes : is_value c ≡ false → (n : Text) → written_name (call_name c) ≡ Some n → are_urls (table.registered n) ≡ true
+          → (s : State) → Goes p rule table meaning true end h s (render_expression occurrence c)
       unfolding ◌>>=◌
-      render_found-goes s v (walked d names) =
-          write_value-goes p rule table meaning e end h s occurrence (walked d names) (may c leads).0 (may c leads).1
-      render_found-goes s v (value d) =
-          write_value-goes p rule table meaning e end h s occurrence (value d) (may c leads).0 (may c leads).1
-      render_found-goes s v missing = λ w last next g.
-          answer-goes p rule table meaning last h s (hook_for (call_name c)) _ (λ o is.
-          render_hook-goes s v o (λ k same. hook_for-none p table.is_user usual s (call_name c) k
-          (subst (λ (x : Option Target). IsAnswered p s (hook_for (call_name c)) (gives x)) same is)) w last next g)
-
-      render_lone_as-goes : (s : State) → ((n : Text) → s.local n ≡ None) → (v : CallView) (o : Option Target)
-          → IsAnswered p s (helper_of v.name) (gives o) → Goes p rule table meaning e end h s (render_lone_as occurrence c v o)
-      unfolding ◌>>=◌
-      render_lone_as-goes s local v None is = λ w last next g.
-          answer-goes p rule table meaning last h s (value_of (call_name c)) _ (λ found has.
-          render_found-goes s v found w last next g)
-      render_lone_as-goes s local v (Some k) is =
-          helped-goes k v s (helper_of-built p table.is_user usual s local v.name k is)
-
-      render_lone-goes : (s : State) → Goes p rule table meaning e end h s (render_lone occurrence c)
-      unfolding ◌>>=◌
-      render_lone-goes s w last next g =
+      render_url-goes plain n written urls s w last next g = rw plain (
           answer-goes p rule table meaning last h s (view_of (call_name c) (call_args c)) _ (λ v viewed.
-          answer-goes p rule table meaning last h s (helper_of v.name) _ (λ o is.
-          render_lone_as-goes s w.local v o is w last next g))
-
-      render_called-goes : (s : State) → Goes p rule table meaning e end h s (render_call occurrence false c)
-      unfolding ◌>>=◌
-      render_called-goes s w last next g =
-          answer-goes p rule table meaning last h s (view_of (call_name c) (call_args c)) _ (λ v viewed.
+          let named = view-named p table.registered usual s w.local (call_name c) (call_args c) v viewed in
+          let same : v.name ≡ n = subst (λ (o : Option Text). IsNamed o v.name) written named in
           answer-goes p rule table meaning last h s (called_as false c v) _ (λ k is.
-          helped-goes k.0 k.1 s (called-expression p table.is_user usual s w.local c v k is) w last next g))
+          on_line-goes p rule table meaning true end h s (line_in (call_marks c).indent_before_write)
+          (render_chosen occurrence k.0 (view_with_bodies false c k.1))
+          (chosen-goes true end h occurrence k.0 (view_with_bodies false c k.1) IsUrl
+          (called-url p table.registered usual s w.local c v k (ap (λ (m : Text). are_urls (table.registered m)) same ∙ urls) is)
+          (execute-url (view_with_bodies false c k.1)) _) w last next g)))
 
-      render_expression-as : (b : Bool) → is_value c ≡ b → (s : State)
-          → Goes p rule table meaning e end h s (render_expression occurrence c)
-      render_expression-as true is s w last next g = rw is (render_lone-goes s w last next g)
-      render_expression-as false is s w last next g = rw is (render_called-goes s w last next g)
+    -- ---- all expressions
 
-      pub render_expression-goes : (s : State) → Goes p rule table meaning e end h s (render_expression occurrence c)
-      render_expression-goes s = render_expression-as (is_value c) refl s
+    and-parts : (x y : Bool) → (x && y) ≡ true → (x ≡ true) × (y ≡ true)
+    and-parts true y is = (refl, is)
+    and-parts false y is = cc
+
+    not-is : (x : Bool) → not x ≡ true → x ≡ false
+    not-is true is = cc
+    not-is false is = refl
+
+    pub render_expression-goes : (e : Bool) (end : rule.Known → Type 0) (h : rule.Known) (occurrence : Occurrence) (c : Call)
+        → ExpressionLeads rule table c e h end → (s : State)
+        → Goes p rule table meaning e end h s (render_expression occurrence c)
+    render_expression-goes e end h occurrence (call n xs b (bodies x y) marks) leads s =
+        by (e && writes_url table.registered c) refl leads.0
+      where
+        c : Call
+        c = call n xs b (bodies x y) marks
+
+        named : (o : Option Text) → written_name n ≡ o → with_or o (λ m. are_urls (table.registered m)) false ≡ true
+            → is_value c ≡ false → rule.MayUrl h × end (rule.after_url h)
+            → Goes p rule table meaning true end h s (render_expression occurrence c)
+        named None is urls plain v = cc
+        named (Some m) is urls plain v = render_url-goes end h occurrence c v.0 v.1 plain m is urls s
+
+        by : (url : Bool) → (e && writes_url table.registered c) ≡ url → ValueLeads rule table url e h end
+            → Goes p rule table meaning e end h s (render_expression occurrence c)
+        by false is v = render_value-goes e end h occurrence c v.0 v.1 (leads.1, leads.2) s
+        by true is v =
+            let both = and-parts e (writes_url table.registered c) is in
+            let parts = and-parts (not (is_value c)) (with_or (written_name n) (λ m. are_urls (table.registered m)) false) both.1 in
+            subst (λ (z : Bool). Goes p rule table meaning z end h s (render_expression occurrence c)) (sym both.0)
+            (named (written_name n) refl parts.1 (not-is (is_value c) parts.0) v)

@@ -1,17 +1,19 @@
 -- Templates that the check accepts, and others with what breaks the rule in them.
-use Rattle.std.proofs.Common.{◌≡◌, ℕ, Bool, true, false, List, [], ◌∷◌, map, refl, None, Some, codes}
+use Rattle.std.proofs.Common.{◌≡◌, ℕ, Bool, true, false, List, [], ◌∷◌, ◌++◌, map, refl, None, Some, codes}
+use Rattle.std.specs.List.{list_all, list_any}
 use Rattle.serde_json.specs.Data.{string}
 use Rattle.handlebars_base.specs.Bytes.{Text}
 use Rattle.handlebars_template.specs.Tree.{Tree, tree, elements_of, Element, raw_string, html_expression, escaped_expression, helper_block, decorator_block, partial_expression, partial_block, comment, call, decorator, args, no_arguments, Param, name, literal, subexpression, no_params, param, no_hash, no_binding, bodies, Body, no_body, body, CallMarks, DecoratorMarks}
 use Rattle.handlebars_helpers.specs.Escaping.{for_html}
+use Rattle.handlebars_helpers.specs.SafeUrl.{is_safe_url}
 use Rattle.handlebars_html.specs.Addresses.{forbidden, followed}
 use Rattle.handlebars_html.specs.Tags.{Tag, markup, common}
-use Rattle.handlebars_html.specs.Tokenizer.{Tokenizer, tag_name, before_attribute, attribute_name, quoted, in_script, next}
+use Rattle.handlebars_html.specs.Tokenizer.{Tokenizer, tag_name, before_attribute, attribute_name, quoted, in_url, in_script, next}
 use Rattle.handlebars_html.specs.Html.{Html, beginning, step, is_blank}
 use Rattle.handlebars_html.specs.Same.{is_same_tokenizer}
 use Rattle.handlebars_html.specs.Sample.{x_value}
-use Rattle.handlebars_html.specs.Faults.{Why, unsafe_value, unread_value, unescaped_value, changed_text, late_attribute, changed_by_iteration, changed_by_block, captured_text_in, made_inclusion, made_block, other_indent, expression_bodies, Fault}
-use Rattle.handlebars_html.specs.Registry.{UserDefined}
+use Rattle.handlebars_html.specs.Faults.{Why, unsafe_value, unread_value, unescaped_value, changed_text, late_attribute, changed_address, changed_by_iteration, changed_by_block, captured_text_in, made_inclusion, made_block, other_indent, expression_bodies, Fault}
+use Rattle.handlebars_html.specs.Registry.{gives_urls, UserDefined}
 use Rattle.handlebars_html.specs.Search.{source, accepts, searched, faults_after}
 
 -- ---- templates
@@ -354,3 +356,67 @@ fault_on_one_way : faults 0 []
     ≡ fault 42 (unsafe_value (html (quoted true common_tag forbidden))) ∷ []
 unfolding next step is_same_tokenizer
 fault_on_one_way = refl
+
+-- ---- addresses that are written as values
+
+-- `safe` is a helper of addresses. Nothing else is user-defined.
+abbrev url_parts : UserDefined
+url_parts = record { escape = for_html; helpers = (codes "safe", gives_urls) ∷ []; decorators = [] }
+
+-- `{{safe x}}`
+abbrev safe_x : Element
+safe_x =
+    escaped_expression (call (name (codes "safe")) (args (param (name (codes "x")) no_params) no_hash) no_binding
+    (bodies no_body no_body) record { block = false; chain = false; indent_before_write = false })
+
+abbrev url_faults : Tree → List Fault
+url_faults t = faults_after url_parts [] (source t) 0
+
+-- `<a href="{{safe x}}/a">{{x}}`
+path_after_address : url_faults
+    (line ((1, raw_string (codes "<a href=\"")) ∷ (10, safe_x) ∷ (20, raw_string (codes "/a\">")) ∷ (24, x_value) ∷ [])) ≡ []
+unfolding next step is_same_tokenizer
+path_after_address = refl
+
+-- `<a href="{{safe x}}:a">`: with `javascript` for `x` that would be a script.
+scheme_of_address : url_faults
+    (line ((1, raw_string (codes "<a href=\"")) ∷ (10, safe_x) ∷ (20, raw_string (codes ":a\">")) ∷ []))
+    ≡ fault 20 changed_address ∷ []
+unfolding next step is_same_tokenizer
+scheme_of_address = refl
+
+-- `<a href="{{safe x}}{{x}}">`
+value_after_address : url_faults
+    (line ((1, raw_string (codes "<a href=\"")) ∷ (10, safe_x) ∷ (20, x_value) ∷ (25, raw_string (codes "\">")) ∷ []))
+    ≡ fault 20 (unsafe_value (html (in_url true common_tag))) ∷ []
+unfolding next step is_same_tokenizer
+value_after_address = refl
+
+-- `<a onclick="{{safe x}}">`: no address begins there.
+address_as_code : url_faults
+    (line ((1, raw_string (codes "<a onclick=\"")) ∷ (13, safe_x) ∷ (23, raw_string (codes "\">")) ∷ []))
+    ≡ fault 13 (unsafe_value (html (quoted true common_tag forbidden))) ∷ []
+unfolding next step is_same_tokenizer
+address_as_code = refl
+
+-- `<a href="{{x}}">`: the name of no helper of addresses
+other_at_address : url_faults
+    (line ((1, raw_string (codes "<a href=\"")) ∷ (10, x_value) ∷ (15, raw_string (codes "\">")) ∷ []))
+    ≡ fault 10 (unsafe_value (html (quoted true common_tag (followed [])))) ∷ []
+unfolding next step is_same_tokenizer
+other_at_address = refl
+
+-- ---- which addresses are safe
+
+safe_addresses : list_all is_safe_url
+    (codes "" ∷ codes "a.html" ∷ codes "/a:b" ∷ codes "?a:b" ∷ codes "#a:b" ∷ codes "a/b:c" ∷ codes "//example.org" ∷ codes "a b&c=d" ∷
+    codes "http://example.org/" ∷ codes "HTTPS:x" ∷ codes " https://example.org" ∷ codes "mailto:a@example.org" ∷ codes "tel:+1" ∷
+    codes "ftp:a" ∷ codes "sms:+1" ∷ []) ≡ true
+safe_addresses = refl
+
+unsafe_addresses : list_any is_safe_url
+    (codes "javascript:x" ∷ codes "JavaScript:x" ∷ codes " javascript:x" ∷ (codes "java" ++ 10 ∷ codes "script:x") ∷
+    (codes "javascript" ++ 9 ∷ codes ":x") ∷ (codes "http" ++ 13 ∷ codes "://example.org/") ∷ (1 ∷ codes "javascript:x") ∷ codes "data:text/html,x" ∷
+    codes "vbscript:x" ∷ codes "file:x" ∷ codes ":x" ∷ codes "javascript :x" ∷ codes "a&b:c" ∷ (codes "https" ++ 0 ∷ codes ":x") ∷ [])
+    ≡ false
+unsafe_addresses = refl

@@ -7,7 +7,7 @@ use Rattle.handlebars_base.specs.Bytes.{Text}
 use Rattle.handlebars_template.specs.Position.{Position}
 use Rattle.handlebars_html.specs.Html.{Html}
 use Rattle.handlebars_html.specs.Same.{is_same}
-use Rattle.handlebars_html.specs.Rule.{Table, IsNamed}
+use Rattle.handlebars_html.specs.Rule.{Registered, Table, IsNamed}
 use Rattle.handlebars_html.specs.Safety.{html_rule}
 use Rattle.handlebars_html.specs.Rows.{Row, entering, leaving, is_at, has_entering, leaving_states, has_row, with_row, with_rows, leavings, table_of, IsInTable}
 use Rattle.handlebars_html.specs.Faults.{Why, Fault, faults_at, with_faults}
@@ -197,10 +197,10 @@ module _ (table : Table html_rule) where
   with_rows-all rows [] all others = all
   with_rows-all rows (r ∷ rs) all others = with_rows-all (with_row rows r) rs (with_row-all rows r all others.0) others.1
 
-pub has_row-is : (is_user : Text → Bool) (rows : List Row) (r : Row) → has_row rows r ≡ true
-    → IsInTable (table_of is_user rows) r
-has_row-is is_user rows (entering n h) is = is
-has_row-is is_user rows (leaving n h g) is = is
+pub has_row-is : (registered : Text → Registered) (rows : List Row) (r : Row) → has_row rows r ≡ true
+    → IsInTable (table_of registered rows) r
+has_row-is registered rows (entering n h) is = is
+has_row-is registered rows (leaving n h g) is = is
 
 -- ---- names
 

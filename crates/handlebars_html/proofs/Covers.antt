@@ -1,8 +1,11 @@
 -- What is known of a state covers the states of a tokenizer that it may stand for, and goes on to do so.
-use Rattle.std.proofs.Common.{◌≡◌, ℕ, ◌==◌, Bool, true, false, not, ◌&&◌, [], ◌∷◌, refl, sym, ap, ◌∙◌, subst, if◌then◌else◌}
+use Rattle.std.proofs.Common.{◌≡◌, ℕ, ◌==◌, Bool, true, false, not, ◌&&◌, ◌||◌, ◌⊎◌, inl, inr, [], ◌∷◌, refl, sym, ap, ◌∙◌, subst, if◌then◌else◌}
 use Rattle.std.proofs.lemmas.Bool.{eqb-true}
-use Rattle.handlebars_base.specs.Bytes.{Text}
-use Rattle.handlebars_html.specs.Tokenizer.{Tokenizer, comment_start_dash, comment_dash, comment_end, comment_unclear, comment_unclear_dash, stuck, next, is_comment, is_safe_tokenizer}
+use Rattle.handlebars_base.specs.Bytes.{Text, slash}
+use Rattle.handlebars_html.specs.Ascii.{is_blank_or_control, begins_query}
+use Rattle.handlebars_html.specs.Addresses.{Value, harmless, forbidden, followed, loaded, loaded_slash, loaded_authority, loaded_host, step_value}
+use Rattle.handlebars_html.specs.Tags.{Tag}
+use Rattle.handlebars_html.specs.Tokenizer.{Tokenizer, before_attribute, quoted, in_url, quote_of, misled, comment_start_dash, comment_dash, comment_end, comment_unclear, comment_unclear_dash, stuck, next, is_comment, is_safe_tokenizer}
 use Rattle.handlebars_html.specs.Html.{Context, Html, step, after, is_safe, after_data}
 use Rattle.handlebars_html.specs.Safety.{StaysIf, Stays}
 use Rattle.handlebars_html.proofs.Data.{by_comment, comment-safe, step-next}
@@ -14,11 +17,24 @@ is_after_dash comment_end = true
 is_after_dash comment_unclear_dash = true
 is_after_dash t = false
 
--- The two unclear states stand for several, `stuck` for any, and each other state for itself.
+-- The state is within these quotes, whatever is known of the value so far.
+abbrev pub IsWithin : Bool → Tag → Context → Html → Type 0
+IsWithin double tag n a = (v : Value) × (a ≡ record { tokenizer = quoted double tag v; context = n })
+
+-- A value in which no data may follow stands for any, and each other one for itself.
+abbrev CoversValue : Value → Bool → Tag → Context → Html → Type 0
+CoversValue forbidden double tag n a = IsWithin double tag n a
+CoversValue v double tag n a = a ≡ record { tokenizer = quoted double tag v; context = n }
+
+-- The two unclear states stand for several, and so does that after an address that was written as a value. `stuck` and `misled`
+-- stand for any state, and each other state for itself.
 abbrev pub CoversAs : Tokenizer → Context → Html → Type 0
 CoversAs comment_unclear n a = (is_comment a.tokenizer ≡ true) × (a.context ≡ n)
 CoversAs comment_unclear_dash n a = (is_after_dash a.tokenizer ≡ true) × (a.context ≡ n)
 CoversAs stuck n a = Unit {0}
+CoversAs misled n a = Unit {0}
+CoversAs (in_url double tag) n a = (a ≡ record { tokenizer = in_url double tag; context = n }) ⊎ IsWithin double tag n a
+CoversAs (quoted double tag v) n a = CoversValue v double tag n a
 CoversAs t n a = a ≡ record { tokenizer = t; context = n }
 
 abbrev pub Covers : Html → Html → Type 0
@@ -37,6 +53,18 @@ unfolding is_after_dash
 CoversAs-self comment_unclear n = (refl, refl)
 CoversAs-self comment_unclear_dash n = (refl, refl)
 CoversAs-self stuck n = tt
+CoversAs-self misled n = tt
+CoversAs-self (in_url double tag) n = inl refl
+CoversAs-self (quoted double tag v) n = value-self v
+  where
+    value-self : (v : Value) → CoversValue v double tag n (record { tokenizer = quoted double tag v; context = n })
+    value-self forbidden = (forbidden, refl)
+    value-self harmless = refl
+    value-self (followed t) = refl
+    value-self (loaded t) = refl
+    value-self loaded_slash = refl
+    value-self loaded_authority = refl
+    value-self loaded_host = refl
 CoversAs-self t n = refl
 
 pub Covers-self : (h : Html) → Covers h h
@@ -96,6 +124,11 @@ Fits-covers : (u t : Tokenizer) (n : Context) → Fits u t → CoversAs u n (rec
 Fits-covers comment_unclear t n is = (is, refl)
 Fits-covers comment_unclear_dash t n is = (is, refl)
 Fits-covers stuck t n is = tt
+Fits-covers misled t n is = tt
+Fits-covers (in_url double tag) t n is = inl (ap (λ (x : Tokenizer). record { tokenizer = x; context = n }) is)
+Fits-covers (quoted double tag v) t n is =
+    subst (λ (x : Tokenizer). CoversAs (quoted double tag v) n (record { tokenizer = x; context = n })) (sym is)
+    (CoversAs-self (quoted double tag v) n)
 Fits-covers u t n is = ap (λ (x : Tokenizer). record { tokenizer = x; context = n }) is
 
 -- ---- within a comment
@@ -166,6 +199,93 @@ stuck-step n b = by_marks (λ b. step (html stuck n) b ≡ html stuck n) refl re
     less : (n : Context) → step (html stuck n) 60 ≡ html stuck n
     less n = ap (λ (t : Tokenizer). html t n) (either (n.in_noscript && not false))
 
+misled-step : (n : Context) (b : ℕ) → step (html misled n) b ≡ html misled n
+unfolding step next
+misled-step n b = by_marks (λ b. step (html misled n) b ≡ html misled n) refl refl (less n) refl
+    (λ b no33 no45 no60 no62. step-next (html misled n) b no60 no62) b
+  where
+    never : (x : Bool) → (if x && false then stuck else misled) ≡ misled
+    never true = refl
+    never false = refl
+
+    less : (n : Context) → step (html misled n) 60 ≡ html misled n
+    less n = ap (λ (t : Tokenizer). html t n) (never n.in_noscript)
+
+-- ---- within quotes
+
+quoted-step : (double : Bool) (tag : Tag) (v : Value) (n : Context) (b : ℕ)
+    → step (html (quoted double tag v) n) b ≡ html (comment_step (quoted double tag v) n b) n
+unfolding step comment_step
+quoted-step double tag v n b =
+    by_marks (λ b. step (html (quoted double tag v) n) b ≡ html (comment_step (quoted double tag v) n b) n)
+    (comment-other (quoted double tag v) n 33 refl refl) (comment-other (quoted double tag v) n 45 refl refl)
+    (ap (λ (x : Bool). html (if x then stuck else next (quoted double tag v) 60) n) (and_true n.in_noscript)) refl
+    (λ b no33 no45 no60 no62. comment-other (quoted double tag v) n b no60 no62) b
+
+in_url-step : (double : Bool) (tag : Tag) (n : Context) (b : ℕ)
+    → step (html (in_url double tag) n) b ≡ html (comment_step (in_url double tag) n b) n
+unfolding step comment_step
+in_url-step double tag n b =
+    by_marks (λ b. step (html (in_url double tag) n) b ≡ html (comment_step (in_url double tag) n b) n)
+    (comment-other (in_url double tag) n 33 refl refl) (comment-other (in_url double tag) n 45 refl refl)
+    (ap (λ (x : Bool). html (if x then stuck else next (in_url double tag) 60) n) (and_true n.in_noscript)) refl
+    (λ b no33 no45 no60 no62. comment-other (in_url double tag) n b no60 no62) b
+
+-- as one state covers another, unless both are stuck
+CoversAs-if : (x : Bool) (s t : Tokenizer) (n : Context) → CoversAs s n (html t n)
+    → CoversAs (if x then stuck else s) n (html (if x then stuck else t) n)
+CoversAs-if true s t n is = tt
+CoversAs-if false s t n is = is
+
+in_url-next : (double : Bool) (tag : Tag) (v : Value) (n : Context) (b : ℕ)
+    → CoversAs (next (in_url double tag) b) n (html (next (quoted double tag v) b) n)
+unfolding next
+in_url-next double tag v n b = by (b == quote_of double) (is_blank_or_control b) ((b == slash) || begins_query b)
+  where
+    by : (x y z : Bool)
+        → CoversAs (if x then before_attribute tag else (if y then in_url double tag else (if z then quoted double tag forbidden else misled)))
+        n (html (if x then before_attribute tag else quoted double tag (step_value v b)) n)
+    by true y z = refl
+    by false true z = inr (step_value v b, refl)
+    by false false true = (step_value v b, refl)
+    by false false false = tt
+
+forbidden-next : (double : Bool) (tag : Tag) (v : Value) (n : Context) (b : ℕ)
+    → CoversAs (next (quoted double tag forbidden) b) n (html (next (quoted double tag v) b) n)
+unfolding next
+forbidden-next double tag v n b = by (b == quote_of double)
+  where
+    by : (x : Bool) → CoversAs (if x then before_attribute tag else quoted double tag forbidden) n
+        (html (if x then before_attribute tag else quoted double tag (step_value v b)) n)
+    by true = refl
+    by false = (step_value v b, refl)
+
+within-step : (s : Tokenizer) (double : Bool) (tag : Tag) (n : Context) (b : ℕ)
+    → step (html s n) b ≡ html (comment_step s n b) n
+    → ((v : Value) → CoversAs (next s b) n (html (next (quoted double tag v) b) n))
+    → (a : Html) → IsWithin double tag n a → Covers (step (html s n) b) (step a b)
+unfolding comment_step
+within-step s double tag n b is covers a c =
+    subst (λ (x : Html). Covers x (step a b)) (sym is)
+    (subst (λ (x : Html). Covers (html (comment_step s n b) n) (step x b)) (sym c.1)
+    (subst (Covers (html (comment_step s n b) n)) (sym (quoted-step double tag c.0 n b))
+    (CoversAs-if ((b == 60) && n.in_noscript) (next s b) (next (quoted double tag c.0) b) n (covers c.0))))
+
+same-step : (t : Tokenizer) (n : Context) (a : Html) (b : ℕ) → a ≡ html t n → Covers (step (html t n) b) (step a b)
+same-step t n a b c = subst (λ (x : Html). Covers (step (html t n) b) (step x b)) (sym c) (Covers-self (step (html t n) b))
+
+CoversValue-step : (v : Value) (double : Bool) (tag : Tag) (n : Context) (a : Html) (b : ℕ) → CoversValue v double tag n a
+    → Covers (step (html (quoted double tag v) n) b) (step a b)
+CoversValue-step forbidden double tag n a b c =
+    within-step (quoted double tag forbidden) double tag n b (quoted-step double tag forbidden n b)
+    (λ v. forbidden-next double tag v n b) a c
+CoversValue-step harmless double tag n a b c = same-step _ n a b c
+CoversValue-step (followed t) double tag n a b c = same-step _ n a b c
+CoversValue-step (loaded t) double tag n a b c = same-step _ n a b c
+CoversValue-step loaded_slash double tag n a b c = same-step _ n a b c
+CoversValue-step loaded_authority double tag n a b c = same-step _ n a b c
+CoversValue-step loaded_host double tag n a b c = same-step _ n a b c
+
 with-flag : (h : Html) (n : Context) → h.context ≡ n → h ≡ html h.tokenizer n
 with-flag h n is = ap (λ (x : Context). html h.tokenizer x) is
 
@@ -177,7 +297,13 @@ CoversAs-step comment_unclear_dash n a b c =
     subst (λ (x : Html). Covers (step (html comment_unclear_dash n) b) (step x b)) (sym (with-flag a n c.1))
     (unclear_dash-step a.tokenizer n b c.0)
 CoversAs-step stuck n a b c = subst (λ (x : Html). Covers x (step a b)) (sym (stuck-step n b)) tt
-CoversAs-step t n a b c = subst (λ (x : Html). Covers (step (html t n) b) (step x b)) (sym c) (Covers-self (step (html t n) b))
+CoversAs-step misled n a b c = subst (λ (x : Html). Covers x (step a b)) (sym (misled-step n b)) tt
+CoversAs-step (in_url double tag) n a b c = elim c [
+  | inl same ↦ same-step (in_url double tag) n a b same
+  | inr within ↦ within-step (in_url double tag) double tag n b (in_url-step double tag n b) (λ v. in_url-next double tag v n b) a within
+]
+CoversAs-step (quoted double tag v) n a b c = CoversValue-step v double tag n a b c
+CoversAs-step t n a b c = same-step t n a b c
 
 -- What is known goes on to cover what it stands for.
 pub after-covers : (h a : Html) (t : Text) → Covers h a → Covers (after h t) (after a t)
@@ -191,6 +317,9 @@ CoversAs-comment : (t : Tokenizer) (n : Context) (a : Html) → is_comment t ≡
 CoversAs-comment comment_unclear n a is c = c
 CoversAs-comment comment_unclear_dash n a is c = (dash-comment a.tokenizer c.0, c.1)
 CoversAs-comment stuck n a is c = cc
+CoversAs-comment misled n a is c = cc
+CoversAs-comment (in_url double tag) n a is c = cc
+CoversAs-comment (quoted double tag v) n a is c = cc
 CoversAs-comment t n a is c =
     (ap (λ (x : Html). is_comment x.tokenizer) c ∙ is, ap (λ (x : Html). x.context) c)
 
@@ -199,6 +328,15 @@ CoversAs-exact : (t : Tokenizer) (n : Context) (a : Html) → is_comment t ≡ f
 CoversAs-exact comment_unclear n a other safe c = cc
 CoversAs-exact comment_unclear_dash n a other safe c = cc
 CoversAs-exact stuck n a other safe c = cc
+CoversAs-exact misled n a other safe c = cc
+CoversAs-exact (in_url double tag) n a other safe c = cc
+CoversAs-exact (quoted double tag harmless) n a other safe c = c
+CoversAs-exact (quoted double tag forbidden) n a other safe c = cc
+CoversAs-exact (quoted double tag (followed t)) n a other safe c = cc
+CoversAs-exact (quoted double tag (loaded t)) n a other safe c = cc
+CoversAs-exact (quoted double tag loaded_slash) n a other safe c = cc
+CoversAs-exact (quoted double tag loaded_authority) n a other safe c = cc
+CoversAs-exact (quoted double tag loaded_host) n a other safe c = cc
 CoversAs-exact t n a other safe c = c
 
 -- Where data may stand by what is known, it may stand.

@@ -24,11 +24,11 @@ pub no_greater : (b : ℕ) → is_unmarked b ≡ true → (b == 62) ≡ false
 unfolding is_unmarked
 no_greater b h = grind (arith, nat_tests)
 
-no_double : (b : ℕ) → is_unmarked b ≡ true → (b == 34) ≡ false
+pub no_double : (b : ℕ) → is_unmarked b ≡ true → (b == 34) ≡ false
 unfolding is_unmarked
 no_double b h = grind (arith, nat_tests)
 
-no_single : (b : ℕ) → is_unmarked b ≡ true → (b == 39) ≡ false
+pub no_single : (b : ℕ) → is_unmarked b ≡ true → (b == 39) ≡ false
 unfolding is_unmarked
 no_single b h = grind (arith, nat_tests)
 

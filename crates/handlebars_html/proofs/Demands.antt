@@ -17,6 +17,8 @@ demanding P = record {
   after_text = λ t h. tt;
   MayValue = λ escapes h. Unit {0};
   after_value = λ escapes h. tt;
+  MayUrl = λ h. Unit {0};
+  after_url = λ h. tt;
   MayIndent = λ t. Unit {0};
   captured = tt;
 }
@@ -30,15 +32,17 @@ meaning p P = record {
   text = λ occurrence i t line h indent may. tt;
   value = λ occurrence found i t line h indent may has. tt;
   raw = λ occurrence found i line h indent may. tt;
+  url = λ occurrence found i t line h indent may safe has. tt;
   boolean = λ occurrence b escapes h may. tt;
   no_value = λ escapes h may. tt;
+  no_url = λ h may. tt;
   no_indent = tt;
   join_indent = λ i j x y. tt;
 }
 
 -- In each run of a tree all of whose elements are as demanded, as are those of what it includes, so is each element to which
 -- the run comes.
-pub elements_are_met : (p : Setting) (P : Element → Type 0) (table : Table (demanding P)) → IsUsual p table.is_user
+pub elements_are_met : (p : Setting) (P : Element → Type 0) (table : Table (demanding P)) → IsUsual p table.registered
     → IsClosed p (demanding P) table → (t : Tree) → Leads (demanding P) table t tt (λ g. Unit {0}) → (recursive : Bool)
     → (ps : List Piece) (o : Outcome) (r : Means p t (first_state recursive) ps o) → AreMet (demanding P) r
 elements_are_met p P table usual closed t leads recursive ps o r =

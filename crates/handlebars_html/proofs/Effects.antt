@@ -3,7 +3,7 @@ use Rattle.std.proofs.Common.{◌≡◌, ℕ, Bool, true, false, not, ◌&&◌, 
 use Rattle.serde_json.specs.Data.{Data, null, boolean, number, unsigned, string, array, object}
 use Rattle.handlebars_base.specs.Answers.{Answer, gives, fails, fails_for, answer_map}
 use Rattle.handlebars_base.specs.Equal.{equals}
-use Rattle.handlebars_base.specs.Values.{truth}
+use Rattle.handlebars_base.specs.Values.{truth, rendered}
 use Rattle.handlebars_helpers.specs.Boolean.{differ, greater, greater_or_equal, less, less_or_equal, negation, len}
 use Rattle.handlebars_helpers.specs.LogLine.{log_line}
 use Rattle.handlebars_helpers.specs.Params.{by_param, two_values}
@@ -18,6 +18,7 @@ use Rattle.handlebars_helpers.specs.CallView.{CallView, HelperView, param_at}
 use Rattle.handlebars_helpers.specs.Choice.{BuiltInKind, kind_if, kind_unless, kind_each, kind_with, kind_lookup, kind_raw, kind_log, kind_eq, kind_ne, kind_gt, kind_gte, kind_lt, kind_lte, kind_and, kind_or, kind_not, kind_len, Choice, the_body, the_inverse, body_in_block, body_in_iterations, the_value, the_boolean, the_line, the_steps, nothing, body_if, lacks, inverse_or_refusal, iterations_or_inverse, walk_or_inverse, each_choice, with_choice, null_or_refusal, lookup_choice, looked_up, condition, of_two, built_in_choice}
 use Rattle.handlebars_helpers.specs.Iterations.{Iteration}
 use Rattle.handlebars_helpers.specs.Decoration.{Action, sets_data, binds, unbinds, sets_partial}
+use Rattle.handlebars_helpers.specs.SafeUrl.{is_safe_url}
 use Rattle.handlebars_semantics.specs.Sections.{section_kind}
 use Rattle.handlebars_html.specs.Rule.{Effect, one_branch, iterations, a_value, no_output, effect_of, IsNamed, inline_name}
 
@@ -172,6 +173,16 @@ fits-no_steps a_value (the_steps steps) h = h
 fits-no_steps a_value c h = tt
 fits-no_steps no_output (the_steps steps) h = h
 fits-no_steps no_output c h = tt
+
+-- It is an address that runs no script, or nothing.
+abbrev pub IsUrl : Choice → Type 0
+IsUrl (the_value d) = is_safe_url (rendered d) ≡ true
+IsUrl nothing = Unit {0}
+IsUrl c = ⊥
+
+pub null-url : (strict : Bool) → Given IsUrl (null_or_refusal strict)
+null-url true = tt
+null-url false = refl
 
 -- An inline partial is set under the name that is written, where one is.
 abbrev pub IsSet : Args → Action → Type 0

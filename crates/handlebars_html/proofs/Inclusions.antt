@@ -239,7 +239,7 @@ module _ (p : Setting) (rule : Rule) (table : Table rule) (meaning : Meaning p r
   name-leads None n end h named is = absurd is
   name-leads (Some m) n end h named is = subst (λ (x : Text). NameLeads rule table x h end) (sym named) is
 
-  module _ (usual : IsUsual p table.is_user) where
+  module _ (usual : IsUsual p table.registered) where
     pub render_decorator-goes : (end : rule.Known → Type 0) (h : rule.Known) (s : State) (t : Decorator)
         → DecoratorLeads rule table t h end → Goes p rule table meaning true end h s (render_decorator t)
     unfolding ◌>>=◌
@@ -249,7 +249,7 @@ module _ (p : Setting) (rule : Rule) (table : Table rule) (meaning : Meaning p r
         answer-goes p rule table meaning last h s (decorator_of v.name) _ (λ k named.
         answer-goes p rule table meaning last h s (actions_of k (shown_tag s.indent t v)) _ (λ actions answered.
         do_actions-go h xs b leads.1 end leads.0 actions s
-        (actions-set p table.is_user usual s w.local n xs (shown_tag s.indent t v) viewed k named actions answered) w last next g)))
+        (actions-set p table.registered usual s w.local n xs (shown_tag s.indent t v) viewed k named actions answered) w last next g)))
 
     pub render_partial-goes : IsClosed p rule table → (end : rule.Known → Type 0) (h : rule.Known) (s : State)
         → (occurrence : Occurrence) (t : Decorator) → InclusionLeads rule table t h end
@@ -261,5 +261,5 @@ module _ (p : Setting) (rule : Rule) (table : Table rule) (meaning : Meaning p r
         on_line-goes p rule table meaning true end h s (line_at marks) (include_tag occurrence t v)
         (λ wl last next g. include_named-goes end h occurrence b leads.2 leads.3 closed _ (shown_tag s.indent t v) refl
         (joined-indent s.indent marks.indent w.indent leads.0)
-        (name-leads (written_name n) v.name end h (view-named p table.is_user usual s w.local n xs v viewed) leads.1) wl
+        (name-leads (written_name n) v.name end h (view-named p table.registered usual s w.local n xs v viewed) leads.1) wl
         (is_current v.name s.current) wl last next g) w last next g)

@@ -9,6 +9,7 @@ pub mod Walk
 pub mod Demands
 mod Data
 mod Blanks
+mod Urls
 mod Covers
 mod Pieces
 mod SameStates

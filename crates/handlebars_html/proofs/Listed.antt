@@ -19,7 +19,7 @@ use Rattle.handlebars_helpers.specs.Choice.{BuiltInKind, built_in, built_ins}
 use Rattle.handlebars_helpers.specs.Decoration.{DecoratorKind, kind_inline, built_in_decorator}
 use Rattle.handlebars_helpers.specs.UserHelper.{UserHelper}
 use Rattle.handlebars_html.specs.Ascii.{is_one_of}
-use Rattle.handlebars_html.specs.Registry.{OtherKind, IsFirstIf, IsOther, IsOtherOrFirst, AddsHelper, ListsHelpers, AddsDecorator, ListsDecorators}
+use Rattle.handlebars_html.specs.Registry.{OtherKind, HoldsIf, IsOther, IsOtherOrFirst, AddsHelper, ListsHelpers, AddsDecorator, ListsDecorators}
 use Rattle.handlebars_html.proofs.CleanFindings.{text-is}
 use Rattle.handlebars_html.proofs.StateLists.{true-false, All-append}
 
@@ -200,7 +200,7 @@ module _ (kind : Text → Option DecoratorKind) where
   decorators-go xs ys m rest all adds so_far =
       subst (λ (zs : List Text). DecoratorsSoFar zs rest all) (sym adds.2) (by adds.0 adds.1)
     where
-      by : (b : Bool) → IsFirstIf b (SameDecorator m) → DecoratorsSoFar (if b then xs else xs ++ m ∷ []) rest all
+      by : (b : Bool) → HoldsIf b (SameDecorator m) → DecoratorsSoFar (if b then xs else xs ++ m ∷ []) rest all
       by true same = record {
         listed = so_far.listed;
         covers = covers-same (λ n. n) SameDecorator xs m rest all same so_far.covers;

@@ -11,7 +11,7 @@ use Rattle.handlebars_semantics.specs.Pieces.{Origin, of_text, of_indent, occurr
 use Rattle.handlebars_semantics.specs.Runs.{Prefix, none, truncated, more}
 use Rattle.handlebars_semantics.proofs.Pieces.{join-put}
 use Rattle.handlebars_html.specs.Html.{Html, beginning, step, after, is_safe, is_unmarked, is_blank}
-use Rattle.handlebars_html.specs.Safety.{IsOfData, Stays, StandsAt, StandSafely}
+use Rattle.handlebars_html.specs.Safety.{IsOfData, Stays, StandsAt, IsUrlAt, Stands, as_text, as_url, StandSafely}
 use Rattle.handlebars_html.proofs.Blanks.{after_newline-blanks, after_blanks-text, blanks-unmarked}
 use Rattle.handlebars_html.proofs.Data.{both, after-append, after-stays, stands_at, Stays-self, Stays-safe, Stays-join}
 
@@ -20,7 +20,7 @@ use Rattle.handlebars_html.proofs.Data.{both, after-append, after-stays, stands_
 -- each piece that comes from data, in the state after those before it
 abbrev pub AreSafe : Html → List Piece → Type 0
 AreSafe a [] = Unit {0}
-AreSafe a (x ∷ xs) = (IsOfData x.origin → StandsAt a x.text) × AreSafe (after a x.text) xs
+AreSafe a (x ∷ xs) = (IsOfData x.origin → Stands a x.text) × AreSafe (after a x.text) xs
 
 pub AreSafe-append : (a : Html) (xs ys : List Piece) → AreSafe a xs → AreSafe (after a (join xs)) ys → AreSafe a (xs ++ ys)
 AreSafe-append a [] ys first second = second
@@ -46,9 +46,23 @@ StandsAt-prefix a t all (rest, e) stands = record {
       stands.stays prefix (f.0 ++ rest, e ∙ ap (λ (x : Text). x ++ rest) f.1 ∙ sym (append_assoc prefix f.0 rest));
 }
 
+IsUrlAt-prefix : (a : Html) (t all : Text) → IsPrefix t all → IsUrlAt a all → IsUrlAt a t
+IsUrlAt-prefix a t all (rest, e) at = record {
+  begins = at.begins;
+  address = at.address;
+  safe = at.safe;
+  text = (rest ++ at.text.0, at.text.1 ∙ ap (λ (x : Text). x ++ at.text.0) e ∙ sym (append_assoc t rest at.text.0));
+  stays = λ prefix f.
+      at.stays prefix (f.0 ++ rest, e ∙ ap (λ (x : Text). x ++ rest) f.1 ∙ sym (append_assoc prefix f.0 rest));
+}
+
+Stands-prefix : (a : Html) (t all : Text) → IsPrefix t all → Stands a all → Stands a t
+Stands-prefix a t all f (as_text at) = as_text (StandsAt-prefix a t all f at)
+Stands-prefix a t all f (as_url at) = as_url (IsUrlAt-prefix a t all f at)
+
 pub AreSafe-prefix : {xs ys : List Piece} → Prefix xs ys → (a : Html) → AreSafe a ys → AreSafe a xs
 AreSafe-prefix none a safe = tt
-AreSafe-prefix (truncated {p = p} {t = t} is) a safe = (λ of_data. StandsAt-prefix a t p.text is (safe.0 of_data), tt)
+AreSafe-prefix (truncated {p = p} {t = t} is) a safe = (λ of_data. Stands-prefix a t p.text is (safe.0 of_data), tt)
 AreSafe-prefix (more {p = p} f) a safe = (safe.0, AreSafe-prefix f (after a p.text) safe.1)
 
 -- From the beginning of a document this says that data stands safely.
@@ -108,7 +122,7 @@ calm a safe [] all = (tt, Stays-self a)
 calm a safe (x ∷ xs) all =
     let first = after-stays a x.text safe all.0 in
     let rest = calm (after a x.text) (Stays-safe a (after a x.text) safe first) xs all.1 in (
-      ((λ of_data. stands_at a x.text safe all.0), rest.0),
+      ((λ of_data. as_text (stands_at a x.text safe all.0)), rest.0),
       subst (Stays a) (sym (after-append a x.text (join xs)))
           (Stays-join a (after a x.text) (after (after a x.text) (join xs)) first rest.1),
     )

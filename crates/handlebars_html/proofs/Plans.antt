@@ -9,6 +9,7 @@ use Rattle.handlebars_template.specs.Tree.{Tree}
 use Rattle.handlebars_scope.specs.LineState.{LineState}
 use Rattle.handlebars_scope.specs.Scopes.{Frame}
 use Rattle.handlebars_helpers.specs.Escaping.{HasEscaped}
+use Rattle.handlebars_helpers.specs.SafeUrl.{is_safe_url}
 use Rattle.handlebars_semantics.specs.Inclusion.{partial_for}
 use Rattle.handlebars_semantics.specs.Means.{todo}
 use Rattle.handlebars_semantics.specs.Occurrences.{Occurrence}
@@ -23,7 +24,7 @@ use Rattle.handlebars_laws.proofs.Outcomes.{in_memory_over, over_marked, stop_ov
 
 -- What a rule says of pieces: which may be written in a state, and to which state they lead. Nothing may be written, pieces
 -- may be joined, and cut off where a run stops. And what the rule allows to be written is written so: a text of a template,
--- a value, escaped or not, and the text of a boolean helper; or no value at all.
+-- a value, escaped or not, an address that runs no script, and the text of a boolean helper; or no value at all.
 pub record Meaning (p : Setting) (rule : Rule) : Type 1 where
   pub Emits : rule.Known → List Piece → rule.Known → Type 0
   pub nothing : (h : rule.Known) → Emits h [] h
@@ -39,9 +40,14 @@ pub record Meaning (p : Setting) (rule : Rule) : Type 1 where
   pub raw : (occurrence : Occurrence) (found : Found) (i : Option Text) (line : LineState) (h : rule.Known)
       → rule.MayIndent (unwrap_or i []) → rule.MayValue false h
       → Emits h (pieces_put (of_raw occurrence found) i (rendered_if_any (present_in found)) line) (rule.after_value false h)
+  pub url : (occurrence : Occurrence) (found : Found) (i : Option Text) (t : Text) (line : LineState) (h : rule.Known)
+      → rule.MayIndent (unwrap_or i []) → rule.MayUrl h → is_safe_url (rendered_if_any (present_in found)) ≡ true
+      → HasEscaped p.parts.escape p.parts.user_escape (rendered_if_any (present_in found)) (gives t)
+      → Emits h (pieces_put (of_value occurrence found) i t line) (rule.after_url h)
   pub boolean : (occurrence : Occurrence) (b escapes : Bool) (h : rule.Known) → rule.MayValue escapes h
       → Emits h (record { origin = of_boolean_text occurrence b; text = boolean_text b } ∷ []) (rule.after_value escapes h)
   pub no_value : (escapes : Bool) (h : rule.Known) → rule.MayValue escapes h → Emits h [] (rule.after_value escapes h)
+  pub no_url : (h : rule.Known) → rule.MayUrl h → Emits h [] (rule.after_url h)
   pub no_indent : rule.MayIndent []
   pub join_indent : (i j : Text) → rule.MayIndent i → rule.MayIndent j → rule.MayIndent (i ++ j)
 

@@ -7,6 +7,7 @@ use Rattle.handlebars_base.specs.Scoped.{Found, present_in}
 use Rattle.handlebars_template.specs.Tree.{Body, no_body, body}
 use Rattle.handlebars_scope.specs.LineState.{LineState}
 use Rattle.handlebars_scope.specs.Scopes.{Frame}
+use Rattle.handlebars_helpers.specs.SafeUrl.{is_safe_url}
 use Rattle.handlebars_semantics.specs.Execute.{in_scope_frame, render_branch}
 use Rattle.handlebars_semantics.specs.Means.{without_escaping, on_line}
 use Rattle.handlebars_semantics.specs.Occurrences.{TreeOccurrence, Occurrence}
@@ -76,13 +77,24 @@ module _ (p : Setting) (rule : Rule) (table : Table rule) (meaning : Meaning p r
   same-goes e end h s m is inner w last next g =
       inner w last next (λ y z same wz. g y z (subst end (sym same) is) wz)
 
-  -- ... or to each end that holds after a value that isn't there
+  -- ... or to each end that holds in a state to which nothing leads
+  nothing-goes : (e : Bool) (end : rule.Known → Type 0) (h x : rule.Known) (s : State) (m : Prog (Unit {0}))
+      → meaning.Emits h [] x → end x → Goes e (λ g. g ≡ h) h s m → Goes e end h s m
+  nothing-goes e end h x s m emits is inner w last next g =
+      inner w last next (λ y z same wz.
+      subst (λ (k : rule.Known). Plan p rule table meaning last k z (next tt)) (sym same)
+      (Plan-widened p rule table meaning last h x emits z (next tt) (g _ z is wz)))
+
+  -- ... after a value that isn't there
   pub no_value-goes : (e : Bool) (end : rule.Known → Type 0) (h : rule.Known) (s : State) (m : Prog (Unit {0}))
       → rule.MayValue e h → end (rule.after_value e h) → Goes e (λ g. g ≡ h) h s m → Goes e end h s m
-  no_value-goes e end h s m may is inner w last next g =
-      inner w last next (λ y z same wz.
-      subst (λ (x : rule.Known). Plan p rule table meaning last x z (next tt)) (sym same)
-      (Plan-widened p rule table meaning last h (rule.after_value e h) (meaning.no_value e h may) z (next tt) (g _ z is wz)))
+  no_value-goes e end h s m may is inner =
+      nothing-goes e end h (rule.after_value e h) s m (meaning.no_value e h may) is inner
+
+  -- ... and after an address that isn't there
+  pub no_url-goes : (end : rule.Known → Type 0) (h : rule.Known) (s : State) (m : Prog (Unit {0}))
+      → rule.MayUrl h → end (rule.after_url h) → Goes true (λ g. g ≡ h) h s m → Goes true end h s m
+  no_url-goes end h s m may is inner = nothing-goes true end h (rule.after_url h) s m (meaning.no_url h may) is inner
 
   pub in_scope_frame-goes : (e : Bool) (end : rule.Known → Type 0) (h : rule.Known) (s : State) (f : Frame)
       (m : Prog (Unit {0})) → IsWellFrame p rule table meaning f → Goes e end h (push_frame f s) m
@@ -142,6 +154,24 @@ module _ (p : Setting) (rule : Rule) (table : Table rule) (meaning : Meaning p r
   unfolding ◌>>=◌
   write_value-goes e end h s occurrence found may is w last next g =
       write_rendered-goes e end h s occurrence found may is s.escapes w.escaping w last next g
+
+  write_url-as : (end : rule.Known → Type 0) (h : rule.Known) (s : State) (occurrence : Occurrence) (found : Found)
+      → is_safe_url (rendered_if_any (present_in found)) ≡ true → rule.MayUrl h → end (rule.after_url h) → (b : Bool) → b ≡ true
+      → Goes true end h s (write_rendered occurrence found b)
+  unfolding ◌>>=◌
+  write_url-as end h s occurrence found safe may is true same = λ w last next g.
+      answer-goes last h s (escape_of (rendered_if_any (present_in found))) _ (λ t has.
+      write_text-goes true end h (rule.after_url h) s (of_value occurrence found) t
+      (λ wz. meaning.url occurrence found s.indent t s.line h wz.indent may safe has) is w last next g)
+  write_url-as end h s occurrence found safe may is false same = cc
+
+  -- a value that is an address
+  pub write_url-goes : (end : rule.Known → Type 0) (h : rule.Known) (s : State) (occurrence : Occurrence) (found : Found)
+      → is_safe_url (rendered_if_any (present_in found)) ≡ true → rule.MayUrl h → end (rule.after_url h)
+      → Goes true end h s (write_value occurrence found)
+  unfolding ◌>>=◌
+  write_url-goes end h s occurrence found safe may is w last next g =
+      write_url-as end h s occurrence found safe may is s.escapes w.escaping w last next g
 
   pub write_boolean_text-goes : (e : Bool) (end : rule.Known → Type 0) (h : rule.Known) (s : State) (occurrence : Occurrence) (b : Bool)
       → rule.MayValue e h → end (rule.after_value e h) → Goes e end h s (write_boolean_text occurrence b)

@@ -8,12 +8,12 @@ use Rattle.handlebars_base.specs.Bytes.{Text}
 use Rattle.handlebars_template.specs.Tree.{Tree}
 use Rattle.handlebars_semantics.specs.State.{Setting}
 use Rattle.handlebars_html.specs.Html.{Html, beginning}
-use Rattle.handlebars_html.specs.Rule.{Table, Leads}
+use Rattle.handlebars_html.specs.Rule.{Registered, Table, Leads}
 use Rattle.handlebars_html.specs.Usual.{IsClosed}
 use Rattle.handlebars_html.specs.Safety.{html_rule}
 use Rattle.handlebars_html.specs.Rows.{Row, entering, leaving, has_entering, has_row, with_rows, table_of, IsInTable}
 use Rattle.handlebars_html.specs.Faults.{Fault}
-use Rattle.handlebars_html.specs.Registry.{UserDefined, is_user_in, faults_of_registry}
+use Rattle.handlebars_html.specs.Registry.{UserDefined, registered_in, faults_of_registry}
 use Rattle.handlebars_html.specs.Check.{Ends, ends_in, each_once, both_findings, found_faults, findings_of_entering, tree_ends}
 use Rattle.handlebars_html.specs.Search.{Pages, source, all_templates, pages_findings, template_findings, templates_findings, round, has_none, accepts, searched, faults_by, AreNeeded, IsVerdict, verdict_in, PagesLead, AreAll, IsPage, IsRightToAccept, AcceptedKeepDataSafe, IsRightToRefuse, AcceptedHaveNoFaults}
 use Rattle.handlebars_html.specs.FoundView.{with_missing}
@@ -47,19 +47,19 @@ is_some_fault (x ∷ xs) = true
 
 module _ (u : UserDefined) (rows : List Row) where
   abbrev table : Table html_rule
-  table = table_of (is_user_in u) rows
+  table = table_of (registered_in u) rows
 
   abbrev read : Text × Tree → Text → Html → Ends
-  read x n h = if bytes_eq n x.0 then tree_ends (is_user_in u) rows (Some x.0) x.1 (h ∷ []) else ends_in []
+  read x n h = if bytes_eq n x.0 then tree_ends (registered_in u) rows (Some x.0) x.1 (h ∷ []) else ends_in []
 
   template-leads : (x : Text × Tree) → IsClean table (template_findings u rows x) → LeadsByTable table x
   template-leads x clean h enters =
-      (tree-leads (is_user_in u) rows (Some x.0) x.1 (h ∷ []) (table.leaves x.0 h)
+      (tree-leads (registered_in u) rows (Some x.0) x.1 (h ∷ []) (table.leaves x.0 h)
       (of_name (bytes_eq x.0 x.0) (text-self x.0) (entered-of_clean table rows (read x) clean x.0 h enters))).0
     where
       of_name : (z : Bool) → z ≡ true
-          → IsFine table (table.leaves x.0 h) (if z then tree_ends (is_user_in u) rows (Some x.0) x.1 (h ∷ []) else ends_in [])
-          → IsFine table (table.leaves x.0 h) (tree_ends (is_user_in u) rows (Some x.0) x.1 (h ∷ []))
+          → IsFine table (table.leaves x.0 h) (if z then tree_ends (registered_in u) rows (Some x.0) x.1 (h ∷ []) else ends_in [])
+          → IsFine table (table.leaves x.0 h) (tree_ends (registered_in u) rows (Some x.0) x.1 (h ∷ []))
       of_name true e fine = fine
       of_name false e fine = true-false (sym e)
 
@@ -75,8 +75,8 @@ module _ (u : UserDefined) (rows : List Row) where
   pages-lead : (templates : List (Text × Tree)) (pages : Pages) → IsClean table (pages_findings u rows templates pages)
       → PagesLead table templates pages
   pages-lead templates (source t) clean =
-      let tree = tree_ends (is_user_in u) rows None t (beginning ∷ []) in
-      (tree-leads (is_user_in u) rows None t (beginning ∷ []) (λ g. Unit {0}) (record {
+      let tree = tree_ends (registered_in u) rows None t (beginning ∷ []) in
+      (tree-leads (registered_in u) rows None t (beginning ∷ []) (λ g. Unit {0}) (record {
         states = All-each (λ (g : Html). Unit {0}) (λ g. tt) tree.states;
         clean = clean;
       })).0
@@ -88,7 +88,7 @@ module _ (u : UserDefined) (rows : List Row) where
   accepts-clean templates pages is =
       let found = round u rows templates pages in
       by_both (has_none found.faults) (list_all (has_row rows) found.rows) is (λ none has. record {
-        rows = All-of_test (IsInTable table) (has_row rows) (has_row-is (is_user_in u) rows) found.rows has;
+        rows = All-of_test (IsInTable table) (has_row rows) (has_row-is (registered_in u) rows) found.rows has;
         faults = none-empty found.faults none;
       })
 
@@ -113,8 +113,8 @@ pub right_to_accept : (p : Setting) → IsRightToAccept p
 right_to_accept p u templates pages rows all is =
     let leads = accepted-leads u rows templates pages is in (
       leads.0.0,
-      λ n x registered. All-contains (LeadsByTable (table_of (is_user_in u) rows)) templates (n, x)
-          (All-from_recursion (LeadsByTable (table_of (is_user_in u) rows)) templates leads.0.1) (all n x registered),
+      λ n x registered. All-contains (LeadsByTable (table_of (registered_in u) rows)) templates (n, x)
+          (All-from_recursion (LeadsByTable (table_of (registered_in u) rows)) templates leads.0.1) (all n x registered),
     )
 
 -- A page leads from the beginning of a document.
@@ -132,29 +132,29 @@ pub accepted_keep_data_safe : (p : Setting) → AcceptedKeepDataSafe p
 accepted_keep_data_safe p u lists templates all pages verdict t page recursive ps o r =
     let leads = right_to_accept p u templates pages verdict.0 all verdict.1 in
     let usual = has_usual_parts p u lists (accepted-leads u verdict.0 templates pages verdict.1).1 in
-    let table = table_of (is_user_in u) verdict.0 in
+    let table = table_of (registered_in u) verdict.0 in
     data_stands_safely p usual.0 table usual.1 leads.1 t (page-leads p table templates all leads.1 pages leads.0 t page)
     recursive ps o r
 
 -- ---- right to refuse
 
-module _ (u : UserDefined) (none : faults_of_registry u ≡ []) (table : Table html_rule) (users : table.is_user ≡ is_user_in u)
+module _ (u : UserDefined) (none : faults_of_registry u ≡ []) (table : Table html_rule) (users : table.registered ≡ registered_in u)
     (templates : List (Text × Tree)) (all : AllByRecursion (LeadsByTable table) templates) (pages : Pages)
     (leads : PagesLead table templates pages) (rows : List Row) (known : AllByRecursion (IsInTable table) rows) where
   fine : (name : Option Text) (t : Tree) (h : Html) (end : Html → Type 0) → Leads html_rule table t h end
-      → IsFine table end (tree_ends (is_user_in u) rows name t (h ∷ []))
+      → IsFine table end (tree_ends (registered_in u) rows name t (h ∷ []))
   fine name t h end lead =
-      subst (λ (z : Text → Bool). IsFine table end (tree_ends z rows name t (h ∷ []))) users
+      subst (λ (z : Text → Registered). IsFine table end (tree_ends z rows name t (h ∷ []))) users
       (tree-fine table rows known name t (h ∷ []) end (lead, tt))
 
   template-clean : (x : Text × Tree) → LeadsByTable table x → IsClean table (template_findings u rows x)
   template-clean x lead =
       entered-to_clean table rows
-      (λ n h. if bytes_eq n x.0 then tree_ends (is_user_in u) rows (Some x.0) x.1 (h ∷ []) else ends_in []) known
+      (λ n h. if bytes_eq n x.0 then tree_ends (registered_in u) rows (Some x.0) x.1 (h ∷ []) else ends_in []) known
       (λ n h enters. of_name n h enters (bytes_eq n x.0) (text-is n x.0))
     where
       of_name : (n : Text) (h : Html) → table.enters n h → (z : Bool) → (z ≡ true → n ≡ x.0)
-          → IsFine table (table.leaves n h) (if z then tree_ends (is_user_in u) rows (Some x.0) x.1 (h ∷ []) else ends_in [])
+          → IsFine table (table.leaves n h) (if z then tree_ends (registered_in u) rows (Some x.0) x.1 (h ∷ []) else ends_in [])
       of_name n h enters true to =
           fine (Some x.0) x.1 h (table.leaves n h) (subst (λ (z : Text). Leads html_rule table x.1 h (table.leaves z h)) (sym (to refl))
           (lead h (subst (λ (z : Text). table.enters z h) (to refl) enters)))
@@ -200,24 +200,24 @@ right_to_refuse p u none templates registered table users closed pages leads n =
 
 -- ---- rows that are needed
 
-has_row-of : (is_user : Text → Bool) (rows : List Row) (r : Row) → IsInTable (table_of is_user rows) r → has_row rows r ≡ true
-has_row-of is_user rows (entering n h) is = is
-has_row-of is_user rows (leaving n h g) is = is
+has_row-of : (registered : Text → Registered) (rows : List Row) (r : Row) → IsInTable (table_of registered rows) r → has_row rows r ≡ true
+has_row-of registered rows (entering n h) is = is
+has_row-of registered rows (leaving n h g) is = is
 
 module _ (u : UserDefined) (templates : List (Text × Tree)) (pages : Pages) where
   -- what the rows say
   abbrev by : List Row → Table html_rule
-  by rows = table_of (is_user_in u) rows
+  by rows = table_of (registered_in u) rows
 
   needed-known : (rows others : List Row) → AreNeeded u templates pages rows → accepts u templates pages others ≡ true
       → AllByRecursion (IsInTable (by others)) rows
   needed-known rows others needed is =
-      All-of_test (IsInTable (by others)) (has_row others) (has_row-is (is_user_in u) others) rows (needed others is)
+      All-of_test (IsInTable (by others)) (has_row others) (has_row-is (registered_in u) others) rows (needed others is)
 
   known-needed : (rows others : List Row) → AllByRecursion (IsInTable (by others)) rows → list_all (has_row others) rows ≡ true
   known-needed [] others all = refl
   known-needed (r ∷ rows) others all =
-      ap (λ (x : Bool). x && list_all (has_row others) rows) (has_row-of (is_user_in u) others r all.0)
+      ap (λ (x : Bool). x && list_all (has_row others) rows) (has_row-of (registered_in u) others r all.0)
       ∙ known-needed rows others all.1
 
   -- What is needed is what each table has that is accepted.
@@ -262,14 +262,14 @@ module _ (u : UserDefined) (templates : List (Text × Tree)) (pages : Pages) whe
   -- So are those that a template needs where it is included as rows say that are needed.
   pub needed-entering : (rows : List Row) → AreNeeded u templates pages rows → (x : Text × Tree) → Contains templates x
       → (h : Html) → has_entering rows x.0 h ≡ true
-      → AreNeeded u templates pages (findings_of_entering x.0 h (tree_ends (is_user_in u) rows (Some x.0) x.1 (h ∷ []))).rows
+      → AreNeeded u templates pages (findings_of_entering x.0 h (tree_ends (registered_in u) rows (Some x.0) x.1 (h ∷ []))).rows
   needed-entering rows needed x stored h has =
-      by_accepted (findings_of_entering x.0 h (tree_ends (is_user_in u) rows (Some x.0) x.1 (h ∷ []))).rows (λ others is.
+      by_accepted (findings_of_entering x.0 h (tree_ends (registered_in u) rows (Some x.0) x.1 (h ∷ []))).rows (λ others is.
       let table = by others in
       let known = needed-known rows others needed is in
       let all = (accepted-leads u others templates pages is).0.1 in
       let leads = All-contains (LeadsByTable table) templates x (All-from_recursion (LeadsByTable table) templates all) stored in
-      (entering-to_clean table x.0 h (tree_ends (is_user_in u) rows (Some x.0) x.1 (h ∷ []))
+      (entering-to_clean table x.0 h (tree_ends (registered_in u) rows (Some x.0) x.1 (h ∷ []))
       (tree-fine table rows known (Some x.0) x.1 (h ∷ []) (table.leaves x.0 h)
       (leads h (entering-known table rows known x.0 h has), tt))).rows)
 

@@ -1,5 +1,5 @@
 -- The law of data: where a template leads as the rule has it, data stands only where it may.
-use Rattle.std.proofs.Common.{◌≡◌, ℕ, Bool, true, false, ◌&&◌, List, [], ◌∷◌, ◌++◌, refl, sym, ap, ◌∙◌, subst, Option, unwrap_or, arith}
+use Rattle.std.proofs.Common.{◌≡◌, ℕ, Bool, true, false, if◌then◌else◌, ◌&&◌, ◌||◌, List, [], ◌∷◌, ◌++◌, refl, sym, ap, ◌∙◌, subst, Option, unwrap_or, arith}
 use Rattle.std.specs.List.{list_all}
 use Rattle.std.proofs.lemmas.Bool.Decides.{nat_tests}
 use Rattle.std.proofs.lemmas.List.Folds.{list_all-append}
@@ -11,16 +11,18 @@ use Rattle.handlebars_base.specs.Values.{boolean_text}
 use Rattle.handlebars_base.proofs.EscapedBytes.{IsOther, by_bytes, escaped_byte-other}
 use Rattle.handlebars_scope.specs.LineState.{LineState}
 use Rattle.handlebars_helpers.specs.Escaping.{Escaping, for_html, HasEscaped}
+use Rattle.handlebars_helpers.specs.SafeUrl.{is_safe_url}
 use Rattle.handlebars_semantics.specs.Occurrences.{Occurrence}
-use Rattle.handlebars_semantics.specs.Pieces.{of_text, of_value, of_boolean_text, Piece, join, pieces_put}
+use Rattle.handlebars_semantics.specs.Pieces.{Origin, of_text, of_value, of_boolean_text, Piece, join, pieces_put}
 use Rattle.handlebars_semantics.specs.Runs.{Prefix}
 use Rattle.handlebars_semantics.specs.State.{Setting}
 use Rattle.handlebars_semantics.specs.Writing.{rendered_if_any}
 use Rattle.handlebars_semantics.proofs.Runs.{join-append}
-use Rattle.handlebars_html.specs.Tokenizer.{stuck, is_refused}
-use Rattle.handlebars_html.specs.Html.{Html, beginning, step, after, is_safe, after_data, is_unmarked, is_blank}
+use Rattle.handlebars_html.specs.Tokenizer.{stuck, is_refused, begins_url, after_address}
+use Rattle.handlebars_html.specs.Html.{Html, beginning, step, after, is_safe, after_data, may_hold_url, after_url, is_unmarked, is_blank}
 use Rattle.handlebars_html.specs.Safety.{html_rule, DataStandsSafely}
 use Rattle.handlebars_html.proofs.Covers.{Covers, Covers-self, Covers-safe, after-covers, Stays-covers}
+use Rattle.handlebars_html.proofs.Urls.{put-url, Covers-begins, address-covers, stays-here}
 use Rattle.handlebars_html.proofs.Data.{after-append, Stays-self}
 use Rattle.handlebars_html.proofs.Effects.{gives-same}
 use Rattle.handlebars_html.proofs.Pieces.{AreSafe, AreSafe-append, AreSafe-prefix, stand_safely, calm, put-data, put-free, put-text}
@@ -75,6 +77,19 @@ emits-prefix h g xs ys f emits =
 false-true : {P : Type 0} → false ≡ true → P
 false-true e = cc
 
+or-false : (x : Bool) → (x || false) ≡ true → x ≡ true
+or-false true is = refl
+or-false false is = cc
+
+-- An address that is put at the beginning of one stands safely, and leads to what is known after one.
+put-there : (h a : Html) → begins_url h.tokenizer ≡ true → Covers h a → (o : Origin) (i : Option Text) (u : Text) (line : LineState)
+    → list_all is_blank (unwrap_or i []) ≡ true → is_safe_url u ≡ true
+    → AreSafe a (pieces_put o i (escaped u) line)
+    × Covers (record h { tokenizer = after_address h.tokenizer }) (after a (join (pieces_put o i (escaped u) line)))
+put-there h a begins c o i u line blank safe =
+    let there = put-url a (Covers-begins h a begins c) o i u line blank safe (escaped-unmarked u) in
+    (there.0, address-covers h a _ begins c there.1)
+
 html_meaning : (p : Setting) → p.parts.escape ≡ for_html → Meaning p html_rule
 html_meaning p for = record {
   Emits = Emits;
@@ -84,8 +99,10 @@ html_meaning p for = record {
   text = text;
   value = value;
   raw = λ occurrence found i line h blank may. false-true may.0;
+  url = url;
   boolean = boolean;
   no_value = λ escapes h may a c. (tt, Stays-covers h a a may.1 c (Stays-self a));
+  no_url = no_url;
   no_indent = refl;
   join_indent = λ i j x y. list_all-append is_blank i j ∙ ap (λ (b : Bool). b && list_all is_blank j) x ∙ y;
 }
@@ -113,6 +130,36 @@ html_meaning p for = record {
         ∙ escaped-unmarked (rendered_if_any (present_in found)) in
         let there = put-data (of_value occurrence found) i t line a blank (Covers-safe h a may.1 c) unmarked in
         (there.0, Stays-covers h a _ may.1 c there.1)
+
+    url : (occurrence : Occurrence) (found : Found) (i : Option Text) (t : Text) (line : LineState) (h : Html)
+        → list_all is_blank (unwrap_or i []) ≡ true → may_hold_url h ≡ true
+        → is_safe_url (rendered_if_any (present_in found)) ≡ true
+        → HasEscaped p.parts.escape p.parts.user_escape (rendered_if_any (present_in found)) (gives t)
+        → Emits h (pieces_put (of_value occurrence found) i t line) (after_url h)
+    url occurrence found i t line h blank may safe has = by (begins_url h.tokenizer) refl may
+      where
+        u : Text
+        u = rendered_if_any (present_in found)
+
+        is : t ≡ escaped u
+        is = escaped-is p.parts.escape for u t has
+
+        by : (x : Bool) → begins_url h.tokenizer ≡ x → (is_safe h || x) ≡ true
+            → Emits h (pieces_put (of_value occurrence found) i t line)
+            (if x then record h { tokenizer = after_address h.tokenizer } else after_data h)
+        by true begins m = λ a c. subst
+            (λ (z : Text). AreSafe a (pieces_put (of_value occurrence found) i z line)
+            × Covers (record h { tokenizer = after_address h.tokenizer }) (after a (join (pieces_put (of_value occurrence found) i z line))))
+            (sym is) (put-there h a begins c (of_value occurrence found) i u line blank safe)
+        by false begins m = value occurrence found i t line h blank (refl, or-false (is_safe h) m) has
+
+    no_url : (h : Html) → may_hold_url h ≡ true → Emits h [] (after_url h)
+    no_url h may = by (begins_url h.tokenizer) refl may
+      where
+        by : (x : Bool) → begins_url h.tokenizer ≡ x → (is_safe h || x) ≡ true
+            → Emits h [] (if x then record h { tokenizer = after_address h.tokenizer } else after_data h)
+        by true begins m a c = (tt, address-covers h a a begins c (stays-here a (Covers-begins h a begins c)))
+        by false begins m a c = (tt, Stays-covers h a a (or-false (is_safe h) m) c (Stays-self a))
 
     boolean : (occurrence : Occurrence) (b escapes : Bool) (h : Html) → (escapes ≡ true) × (is_safe h ≡ true)
         → Emits h (record { origin = of_boolean_text occurrence b; text = boolean_text b } ∷ []) (after_data h)

@@ -5,7 +5,7 @@ use Rattle.std.proofs.lemmas.Slice.Eq.{bytes_eq-Decides}
 use Rattle.handlebars_base.specs.Bytes.{Text}
 use Rattle.handlebars_html.specs.Addresses.{Value, harmless, forbidden, followed, loaded, loaded_slash, loaded_authority, loaded_host}
 use Rattle.handlebars_html.specs.Tags.{Content, markup, inner_text, script_text, svg_begins, svg_ends, html_in_svg, foreign_markup, noscript_begins, noscript_ends, plaintext, Attributes, common, of_active, of_showing, of_loading, of_meta, meta_content, meta_pragma, Tag}
-use Rattle.handlebars_html.specs.Tokenizer.{Tokenizer, in_data, tag_open, end_tag_open, tag_name, before_attribute, attribute_name, after_attribute, before_value, quoted, unquoted, declaration, declaration_dash, bogus, comment_start, comment_start_dash, in_comment, comment_dash, comment_end, comment_bang, comment_unclear, comment_unclear_dash, in_text, text_tag_open, text_end_name, in_script, script_tag_open, script_end_name, text_end, late, stuck}
+use Rattle.handlebars_html.specs.Tokenizer.{Tokenizer, in_data, tag_open, end_tag_open, tag_name, before_attribute, attribute_name, after_attribute, before_value, quoted, in_url, unquoted, declaration, declaration_dash, bogus, comment_start, comment_start_dash, in_comment, comment_dash, comment_end, comment_bang, comment_unclear, comment_unclear_dash, in_text, text_tag_open, text_end_name, in_script, script_tag_open, script_end_name, text_end, late, misled, stuck}
 use Rattle.handlebars_html.specs.Html.{Foreign, outside, in_svg, anywhere, Context, Html}
 use Rattle.handlebars_html.specs.Same.{is_same_bool, is_same_content, is_same_attributes, is_same_tag, is_same_value, is_same_tokenizer, is_same_foreign, is_same_context, is_same, DecidesSame}
 use Rattle.handlebars_html.proofs.Data.{both}
@@ -82,6 +82,7 @@ tokenizer-is in_script in_script is = refl
 tokenizer-is script_tag_open script_tag_open is = refl
 tokenizer-is text_end text_end is = refl
 tokenizer-is late late is = refl
+tokenizer-is misled misled is = refl
 tokenizer-is stuck stuck is = refl
 tokenizer-is (tag_name x n) (tag_name y m) is = by_both (is_same_bool x y) (bytes_eq n m) is (λ a b.
     ap (λ (z : Bool). tag_name z n) (bool-is x y a) ∙ ap (λ (z : Text). tag_name y z) (text-is n m b))
@@ -97,6 +98,8 @@ tokenizer-is (quoted x s v) (quoted y t w) is =
     by_both (is_same_tag s t) (is_same_value v w) rest (λ b c.
     ap (λ (z : Bool). quoted z s v) (bool-is x y a) ∙ ap (λ (z : Tag). quoted y z v) (tag-is s t b)
     ∙ ap (λ (z : Value). quoted y t z) (value-is v w c)))
+tokenizer-is (in_url x s) (in_url y t) is = by_both (is_same_bool x y) (is_same_tag s t) is (λ a b.
+    ap (λ (z : Bool). in_url z s) (bool-is x y a) ∙ ap (λ (z : Tag). in_url y z) (tag-is s t b))
 tokenizer-is (unquoted s) (unquoted t) is = ap (λ (z : Tag). unquoted z) (tag-is s t is)
 tokenizer-is (in_text x n) (in_text y m) is = by_both (is_same_bool x y) (bytes_eq n m) is (λ a b.
     ap (λ (z : Bool). in_text z n) (bool-is x y a) ∙ ap (λ (z : Text). in_text y z) (text-is n m b))
@@ -165,6 +168,7 @@ tokenizer-self (attribute_name s n) = and-true _ _ (tag-self s) (text-self n)
 tokenizer-self (after_attribute s n) = and-true _ _ (tag-self s) (text-self n)
 tokenizer-self (before_value s v) = and-true _ _ (tag-self s) (value-self v)
 tokenizer-self (quoted x s v) = and-true _ _ (bool-self x) (and-true _ _ (tag-self s) (value-self v))
+tokenizer-self (in_url x s) = and-true _ _ (bool-self x) (tag-self s)
 tokenizer-self (unquoted s) = tag-self s
 tokenizer-self (in_text x n) = and-true _ _ (bool-self x) (text-self n)
 tokenizer-self (text_tag_open x n) = and-true _ _ (bool-self x) (text-self n)

@@ -7,7 +7,7 @@ use Rattle.handlebars_html.specs.Sample.{first_setting, empty_table, SafePagesKe
 use Rattle.handlebars_html.proofs.Calls.{none-some}
 use Rattle.handlebars_html.proofs.Safety.{data_stands_safely}
 
-first_is_usual : (d : Data) → IsUsual (first_setting d) empty_table.is_user
+first_is_usual : (d : Data) → IsUsual (first_setting d) empty_table.registered
 first_is_usual d = record { helpers = λ n. refl; hooks = λ block. refl; decorators = λ n. refl }
 
 first_is_closed : (d : Data) → IsClosed (first_setting d) html_rule empty_table

@@ -15,6 +15,7 @@ use Rattle.handlebars_helpers.specs.CallView.{CallView, HelperView, param_at}
 use Rattle.handlebars_helpers.specs.Callee.{built, LocalHelper, Target, calls_registered, calls_local}
 use Rattle.handlebars_helpers.specs.Choice.{BuiltInKind, built_in, Choice, the_value, nothing, null_or_refusal, built_in_choice}
 use Rattle.handlebars_helpers.specs.UserHelper.{Step, Offer, GivesValues, not_offered, offers_missing, offers}
+use Rattle.handlebars_helpers.specs.SafeUrl.{IsSafeOffer, GivesUrls}
 use Rattle.handlebars_helpers.specs.Callee.{user, first_callee}
 use Rattle.handlebars_semantics.specs.Questions.{choice_of, offer_choice, steps_or_offer}
 use Rattle.handlebars_semantics.specs.Values.{HasSteps}
@@ -24,9 +25,9 @@ use Rattle.handlebars_semantics.specs.Questions.{view_of, helper_of, called_as, 
 use Rattle.handlebars_semantics.specs.Sections.{section_kind, section_call, HasSectionIf}
 use Rattle.handlebars_semantics.specs.State.{Setting, State, hook, helper_named, helper_for, registered_target}
 use Rattle.handlebars_semantics.specs.Values.{HasName, HaveValues}
-use Rattle.handlebars_html.specs.Rule.{Effect, iterations, a_value, effect_of, effect_named, written_name, IsNamed, inline_name}
+use Rattle.handlebars_html.specs.Rule.{Registered, as_first, user_values, user_urls, are_urls, effect_as, Effect, iterations, a_value, effect_of, effect_named, written_name, IsNamed, inline_name}
 use Rattle.handlebars_html.specs.Usual.{HelperIs, IsUsual}
-use Rattle.handlebars_html.proofs.Effects.{Given, given-gives, gives-same, Fits, null-fits, kind-fits, section-fits, IsNoSteps, fits-no_steps, IsSet}
+use Rattle.handlebars_html.proofs.Effects.{Given, given-gives, gives-same, Fits, null-fits, kind-fits, section-fits, IsNoSteps, fits-no_steps, IsUrl, null-url, IsSet}
 
 -- ---- what calls call
 
@@ -36,13 +37,13 @@ some-same x y is = cc
 none-some : {P : Type 0} {x : Target} → None ≡ Some x → P
 none-some e = cc
 
-module _ (p : Setting) (is_user : Text → Bool) (usual : IsUsual p is_user) where
+module _ (p : Setting) (registered : Text → Registered) (usual : IsUsual p registered) where
   -- whatever it is asked, and wherever, what it chooses fits
   abbrev pub IsBuilt : (Choice → Type 0) → Target → Type 0
   IsBuilt fits k = (z : State) (h : HelperView) (c : Choice) → IsAnswered p z (choice_of k h) (gives c) → fits c
 
   no_hook : (block : Bool) → registered_target p.parts (hook block) ≡ None
-  no_hook block = by block (subst (λ (x : Bool). HelperIs p x (hook block)) (usual.hooks block) (usual.helpers (hook block)))
+  no_hook block = by block (subst (λ (x : Registered). HelperIs p x (hook block)) (usual.hooks block) (usual.helpers (hook block)))
     where
       by : (block : Bool) → p.parts.helper (hook block) ≡ first_callee (hook block) → registered_target p.parts (hook block) ≡ None
       by true is = ap (option_map (λ k. calls_registered k)) is
@@ -62,13 +63,27 @@ module _ (p : Setting) (is_user : Text → Bool) (usual : IsUsual p is_user) whe
       by None i (goes_on {x = x} j is) = offered x is
       by (Some steps) i next = absurd (never _ steps i)
 
+  -- a helper of one's user that gives addresses
+  url-chooses : (called : Text) → GivesUrls (p.parts.user called) → IsBuilt IsUrl (calls_registered (user called))
+  url-chooses called urls z h c (goes_on {x = steps} i next) = by steps i next
+    where
+      offered : (x : Offer) → IsSafeOffer x → gives c ≡ offer_choice p.parts.strict x → IsUrl c
+      offered not_offered safe is = subst IsUrl (sym (gives-same c nothing is)) tt
+      offered offers_missing safe is = given-gives IsUrl (null_or_refusal p.parts.strict) c is (null-url p.parts.strict)
+      offered (offers d) safe is = subst IsUrl (sym (gives-same c (the_value d) is)) safe
+
+      by : (steps : Option (List Step)) → HasSteps p z called h (gives steps) → steps_or_offer p z called h steps (gives c)
+          → IsUrl c
+      by None i (goes_on {x = x} j is) = offered x (urls.urls _ x j) is
+      by (Some steps) i next = absurd (urls.values _ steps i)
+
   built-chooses : (kind : BuiltInKind) → IsBuilt (Fits (effect_of kind)) (calls_registered (built kind))
   built-chooses kind z h c is =
       given-gives (Fits (effect_of kind)) (built_in_choice p.parts.strict kind h) c is (kind-fits p.parts.strict kind h)
 
   -- what stands under a name chooses as its name says
-  registered-chooses : (n : Text) (k : Target) → registered_target p.parts n ≡ Some k → IsBuilt (Fits (effect_named is_user n)) k
-  registered-chooses n k is = by (is_user n) (usual.helpers n)
+  registered-chooses : (n : Text) (k : Target) → registered_target p.parts n ≡ Some k → IsBuilt (Fits (effect_named registered n)) k
+  registered-chooses n k is = by (registered n) (usual.helpers n)
     where
       of_kind : (o : Option BuiltInKind) → p.parts.helper n ≡ option_map (λ kind. built kind) o
           → IsBuilt (Fits (with_or o effect_of iterations)) k
@@ -78,27 +93,50 @@ module _ (p : Setting) (is_user : Text → Bool) (usual : IsUsual p is_user) whe
           (some-same (calls_registered (built kind)) k (sym (ap (option_map (λ k. calls_registered k)) at) ∙ is))
           (built-chooses kind)
 
-      by : (x : Bool) → HelperIs p x n → IsBuilt (Fits (if x then a_value else with_or (built_in n) effect_of iterations)) k
-      by true at =
+      by_values : (at : Text) → p.parts.helper n ≡ Some (user at) → GivesValues (p.parts.user at) → IsBuilt (Fits a_value) k
+      by_values at e gives_values =
           subst (IsBuilt (Fits a_value))
-          (some-same (calls_registered (user at.0)) k (sym (ap (option_map (λ k. calls_registered k)) at.1) ∙ is))
-          (user-chooses at.0 at.2)
-      by false at = of_kind (built_in n) at
+          (some-same (calls_registered (user at)) k (sym (ap (option_map (λ k. calls_registered k)) e) ∙ is))
+          (user-chooses at gives_values)
+
+      by : (x : Registered) → HelperIs p x n → IsBuilt (Fits (effect_as x n)) k
+      by user_values at = by_values at.0 at.1 at.2
+      by user_urls at = by_values at.0 at.1 at.2.values
+      by as_first at = of_kind (built_in n) at
 
   -- a name with nothing under it is a section's
-  unregistered-effect : (n : Text) → registered_target p.parts n ≡ None → effect_named is_user n ≡ iterations
-  unregistered-effect n is = by (is_user n) (usual.helpers n)
+  unregistered-effect : (n : Text) → registered_target p.parts n ≡ None → effect_named registered n ≡ iterations
+  unregistered-effect n is = by (registered n) (usual.helpers n)
     where
       of_kind : (o : Option BuiltInKind) → p.parts.helper n ≡ option_map (λ kind. built kind) o → with_or o effect_of iterations ≡ iterations
       of_kind None at = refl
       of_kind (Some kind) at = none-some (sym is ∙ ap (option_map (λ k. calls_registered k)) at)
 
-      by : (x : Bool) → HelperIs p x n → (if x then a_value else with_or (built_in n) effect_of iterations) ≡ iterations
-      by true at = none-some (sym is ∙ ap (option_map (λ k. calls_registered k)) at.1)
-      by false at = of_kind (built_in n) at
+      by : (x : Registered) → HelperIs p x n → effect_as x n ≡ iterations
+      by user_values at = none-some (sym is ∙ ap (option_map (λ k. calls_registered k)) at.1)
+      by user_urls at = none-some (sym is ∙ ap (option_map (λ k. calls_registered k)) at.1)
+      by as_first at = of_kind (built_in n) at
 
-  no_steps-built : (n : Text) (k : Target) → IsBuilt (Fits (effect_named is_user n)) k → IsBuilt IsNoSteps k
-  no_steps-built n k is z h c chose = fits-no_steps (effect_named is_user n) c (is z h c chose)
+  -- what stands under the name of a helper of addresses
+  record UrlTarget (n : Text) : Type 0 where
+    pub target : Target
+    pub is : registered_target p.parts n ≡ Some target
+    pub built : IsBuilt IsUrl target
+
+  url-target : (n : Text) → are_urls (registered n) ≡ true → UrlTarget n
+  url-target n is = by (registered n) is (usual.helpers n)
+    where
+      by : (x : Registered) → are_urls x ≡ true → HelperIs p x n → UrlTarget n
+      by as_first e at = cc
+      by user_values e at = cc
+      by user_urls e at = record {
+        target = calls_registered (user at.0);
+        is = ap (option_map (λ k. calls_registered k)) at.1;
+        built = url-chooses at.0 at.2;
+      }
+
+  no_steps-built : (n : Text) (k : Target) → IsBuilt (Fits (effect_named registered n)) k → IsBuilt IsNoSteps k
+  no_steps-built n k is z h c chose = fits-no_steps (effect_named registered n) c (is z h c chose)
 
   -- there is no hook
   pub hook_for-none : (s : State) (q : Param) (k : Target) → IsAnswered p s (hook_for q) (gives (Some k)) → ⊥
@@ -140,12 +178,12 @@ module _ (p : Setting) (is_user : Text → Bool) (usual : IsUsual p is_user) whe
 
     -- of a block: what its name says, or a section
     pub called-block : (c : Call) (v : CallView) (k : Target × CallView) → IsAnswered p s (called_as true c v) (gives k)
-        → IsBuilt (Fits (effect_named is_user v.name)) k.0
+        → IsBuilt (Fits (effect_named registered v.name)) k.0
     called-block c v k is = by (registered_target p.parts v.name) refl
         (subst (λ (o : Option Target). HasCalled p s true c v o (gives k)) (for-is true v.name) is)
       where
         by : (o : Option Target) → registered_target p.parts v.name ≡ o → HasCalled p s true c v o (gives k)
-            → IsBuilt (Fits (effect_named is_user v.name)) k.0
+            → IsBuilt (Fits (effect_named registered v.name)) k.0
         by None e is = subst (λ (w : Effect). IsBuilt (Fits w) k.0) (sym (unregistered-effect v.name e))
             (section-built (p.parts.sections && (true && is_value c)) (call_name c) v k is)
         by (Some t) e is = registered-chooses v.name k.0
@@ -167,7 +205,15 @@ module _ (p : Setting) (is_user : Text → Bool) (usual : IsUsual p is_user) whe
         by (Some t) e is = no_steps-built v.name k.0 (registered-chooses v.name k.0
             (e ∙ sym (ap (λ (x : Target × CallView). Some x.0) (gives-same k (t, v) is))))
 
-module _ (p : Setting) (is_user : Text → Bool) (usual : IsUsual p is_user) (s : State) (local : (n : Text) → s.local n ≡ None) where
+    -- ... and one of addresses, if it is called by the name of one
+    pub called-url : (c : Call) (v : CallView) (k : Target × CallView) → are_urls (registered v.name) ≡ true
+        → IsAnswered p s (called_as false c v) (gives k) → IsBuilt IsUrl k.0
+    called-url c v k urls is =
+        let there = url-target v.name urls in
+        let answered = subst (λ (o : Option Target). HasCalled p s false c v o (gives k)) (for-is false v.name ∙ there.is) is in
+        subst (IsBuilt IsUrl) (sym (ap (λ (x : Target × CallView). x.0) (gives-same k (there.target, v) answered))) there.built
+
+module _ (p : Setting) (registered : Text → Registered) (usual : IsUsual p registered) (s : State) (local : (n : Text) → s.local n ≡ None) where
   -- ---- views
 
   named-written : (q : Param) (n : Text) → HasName p s q (gives n) → IsNamed (written_name q) n

@@ -16,7 +16,7 @@ use Rattle.handlebars_template.specs.declared.template.tree.DecoratorTemplate.{D
 use Rattle.handlebars_template.specs.declared.template.tree.BlockParam.{the_lemmas}
 use Rattle.handlebars_html.specs.Html as html
 use Rattle.handlebars_html.specs.Rows.{Row, is_among, with_states, without_state, leavings}
-use Rattle.handlebars_html.specs.Rule.{Effect, one_branch, iterations, written_name, inline_name}
+use Rattle.handlebars_html.specs.Rule.{Registered, Effect, one_branch, iterations, written_name, inline_name}
 use Rattle.handlebars_html.specs.Check.{Findings, Ends, ends_in, found_before, found_rows, either_ends, then_ends, both_findings, findings_of_each, findings_of_entering, findings_of_entered, iteration_findings, whys_of_indent, whys_of_name, whys_of_iterations, whys_of_captured, may_name, included_ends, inclusion_parts, first_position, later_positions, element_ends, elements_ends, bodies_ends, branch_ends, own_ends, decorator_ends, inclusion_ends}
 use Rattle.handlebars_html.specs.HtmlView.{html_of}
 use Rattle.handlebars_html.specs.FoundView.{found_of, with_findings, AddsFindings, EndsIn, findings_in, AddsFaults}
@@ -43,13 +43,13 @@ later-at [] (suc i) = refl
 later-at (p ∷ ps) zero = refl
 later-at (p ∷ ps) (suc i) = later-at ps i
 
-module _ (is_user : Text → Bool) (rows : List Row) (n : Option Text) (ps : List Position) (es : List TemplateElement) (hs : List html.Html) where
+module _ (registered : Text → Registered) (rows : List Row) (n : Option Text) (ps : List Position) (es : List TemplateElement) (hs : List html.Html) where
   -- the ends of the elements from an index on
   abbrev pub rest_ends : ℕ → List html.Html → Ends
-  rest_ends i gs = elements_ends is_user rows n (drop i ps) (elements_view (drop i es)) gs
+  rest_ends i gs = elements_ends registered rows n (drop i ps) (elements_view (drop i es)) gs
 
   abbrev pub all_ends : Ends
-  all_ends = elements_ends is_user rows n ps (elements_view es) hs
+  all_ends = elements_ends registered rows n ps (elements_view es) hs
 
   -- The elements from an index on lead from these states where all of them lead.
   abbrev pub ElementsFrom : ℕ → List Html → Found → Found → Type 0
@@ -59,9 +59,9 @@ module _ (is_user : Text → Bool) (rows : List Row) (n : Option Text) (ps : Lis
 
   elements-at : (i : ℕ) (e : TemplateElement) (g : html.Html) (gs : List html.Html) → i < length es → e ≡ get_or es i e
       → rest_ends i (g ∷ gs)
-      ≡ then_ends (element_ends is_user rows n (slice_get ps i) (element_view e) (g ∷ gs)) (λ ks. rest_ends (i + 1) ks)
+      ≡ then_ends (element_ends registered rows n (slice_get ps i) (element_view e) (g ∷ gs)) (λ ks. rest_ends (i + 1) ks)
   elements-at i e g gs within is =
-      ap (λ (z : List TemplateElement). elements_ends is_user rows n (drop i ps) (elements_view z) (g ∷ gs)) (read es i e within is)
+      ap (λ (z : List TemplateElement). elements_ends registered rows n (drop i ps) (elements_view z) (g ∷ gs)) (read es i e within is)
       ∙ rw (first-at ps i, later-at ps i, add-one) refl
 
   step : (x : Ends) (i : ℕ) (gs ks : List Html) (first now next : Found)
@@ -78,30 +78,30 @@ module _ (is_user : Text → Bool) (rows : List Row) (n : Option Text) (ps : Lis
 
   pub elements-go : (i : ℕ) (e : TemplateElement) (g : Html) (gs ks : List Html) (first now next : Found) → i < length es
       → e ≡ get_or es i e → ElementsFrom i (g ∷ gs) first now
-      → EndsIn rows now next ks (element_ends is_user rows n (slice_get ps i) (element_view e) (map html_of (g ∷ gs)))
+      → EndsIn rows now next ks (element_ends registered rows n (slice_get ps i) (element_view e) (map html_of (g ∷ gs)))
       → ElementsFrom (i + 1) ks first next
   elements-go i e g gs ks first now next within is l ends =
-      step (element_ends is_user rows n (slice_get ps i) (element_view e) (map html_of (g ∷ gs))) i (g ∷ gs) ks first now next
+      step (element_ends registered rows n (slice_get ps i) (element_view e) (map html_of (g ∷ gs))) i (g ∷ gs) ks first now next
       (elements-at i e (html_of g) (map html_of gs) within is) l ends
 
   -- It leads on from states of which there are some, once they are counted.
   pub elements-more : (i : ℕ) (e : TemplateElement) (gs ks : List Html) (first now counted next : Found) → i < length es
       → e ≡ get_or es i e → 0 < length gs → found_of counted ≡ found_of now → ElementsFrom i gs first now
-      → EndsIn rows counted next ks (element_ends is_user rows n (slice_get ps i) (element_view e) (map html_of gs))
+      → EndsIn rows counted next ks (element_ends registered rows n (slice_get ps i) (element_view e) (map html_of gs))
       → ElementsFrom (i + 1) ks first next
   elements-more i e [] ks first now counted next within is some same l ends = absurd (omega arith)
   elements-more i e (g ∷ gs) ks first now counted next within is some same l ends =
       elements-go i e g gs ks first now next within is l
-      (ends-from rows now counted next ks (element_ends is_user rows n (slice_get ps i) (element_view e) (map html_of (g ∷ gs)))
+      (ends-from rows now counted next ks (element_ends registered rows n (slice_get ps i) (element_view e) (map html_of (g ∷ gs)))
       same ends)
 
   pub elements-end : (i : ℕ) (gs : List Html) (first now : Found) → length es ≤ i → ElementsFrom i gs first now
       → EndsIn rows first now gs all_ends
   elements-end i gs first now past l = (
-    ap (λ (z : List TemplateElement). (elements_ends is_user rows n (drop i ps) (elements_view z) (map html_of gs)).states)
+    ap (λ (z : List TemplateElement). (elements_ends registered rows n (drop i ps) (elements_view z) (map html_of gs)).states)
         (sym (drop_of_length-le es past)) ∙ l.0,
     ap (λ (z : List TemplateElement). with_findings rows (found_of now)
-        (elements_ends is_user rows n (drop i ps) (elements_view z) (map html_of gs)).findings) (sym (drop_of_length-le es past))
+        (elements_ends registered rows n (drop i ps) (elements_view z) (map html_of gs)).findings) (sym (drop_of_length-le es past))
         ∙ l.1,
   )
 
@@ -141,29 +141,29 @@ decorator_name-out t = search (rules, the_lemmas)
 
 -- ---- blocks
 
-module _ (is_user : Text → Bool) (rows : List Row) (n : Option Text) (p : Option Position) where
+module _ (registered : Text → Registered) (rows : List Row) (n : Option Text) (p : Option Position) where
   -- One of two branches is rendered.
   pub branches-out : (t : Bodies) (e : Effect) (hs : List html.Html) (a b c : Found) (ks gs : List Html) → e ≡ one_branch
-      → EndsIn rows a b ks (branch_ends is_user rows n (bodies_body t) hs)
-      → EndsIn rows b c gs (either_ends (ends_in (map html_of ks)) (branch_ends is_user rows n (bodies_inverse t) hs))
-      → EndsIn rows a c gs (bodies_ends is_user rows n p t e hs)
+      → EndsIn rows a b ks (branch_ends registered rows n (bodies_body t) hs)
+      → EndsIn rows b c gs (either_ends (ends_in (map html_of ks)) (branch_ends registered rows n (bodies_inverse t) hs))
+      → EndsIn rows a c gs (bodies_ends registered rows n p t e hs)
   branches-out (bodies x y) e hs a b c ks gs is first later =
-      subst (λ (z : Effect). EndsIn rows a c gs (bodies_ends is_user rows n p (bodies x y) z hs)) (sym is)
-      (ends-either rows a b c ks gs (branch_ends is_user rows n x hs) (branch_ends is_user rows n y hs) first later)
+      subst (λ (z : Effect). EndsIn rows a c gs (bodies_ends registered rows n p (bodies x y) z hs)) (sym is)
+      (ends-either rows a b c ks gs (branch_ends registered rows n x hs) (branch_ends registered rows n y hs) first later)
 
   -- There are iterations, or none.
   pub iterations-out : (t : Bodies) (e : Effect) (hs : List html.Html) (a b c : Found) (ks gs : List Html) → e ≡ iterations
       → AddsFindings rows a b (findings_of_each
-      (λ h. iteration_findings is_user rows n p h (branch_ends is_user rows n (bodies_body t) (h ∷ []))) hs)
+      (λ h. iteration_findings registered rows n p h (branch_ends registered rows n (bodies_body t) (h ∷ []))) hs)
       → map html_of ks ≡ hs
-      → EndsIn rows b c gs (either_ends (ends_in (map html_of ks)) (branch_ends is_user rows n (bodies_inverse t) hs))
-      → EndsIn rows a c gs (bodies_ends is_user rows n p t e hs)
+      → EndsIn rows b c gs (either_ends (ends_in (map html_of ks)) (branch_ends registered rows n (bodies_inverse t) hs))
+      → EndsIn rows a c gs (bodies_ends registered rows n p t e hs)
   iterations-out (bodies x y) e hs a b c ks gs is first copied later =
-      subst (λ (z : Effect). EndsIn rows a c gs (bodies_ends is_user rows n p (bodies x y) z hs)) (sym is)
+      subst (λ (z : Effect). EndsIn rows a c gs (bodies_ends registered rows n p (bodies x y) z hs)) (sym is)
       (ends-then rows a b c gs
-      (findings_of_each (λ h. iteration_findings is_user rows n p h (branch_ends is_user rows n x (h ∷ []))) hs)
-      (either_ends (ends_in hs) (branch_ends is_user rows n y hs)) first
-      (subst (λ (zs : List html.Html). EndsIn rows b c gs (either_ends (ends_in zs) (branch_ends is_user rows n y hs))) copied
+      (findings_of_each (λ h. iteration_findings registered rows n p h (branch_ends registered rows n x (h ∷ []))) hs)
+      (either_ends (ends_in hs) (branch_ends registered rows n y hs)) first
+      (subst (λ (zs : List html.Html). EndsIn rows b c gs (either_ends (ends_in zs) (branch_ends registered rows n y hs))) copied
       later))
 
 module _ (rows : List Row) (x : Ends) (a b c : Found) (gs ks : List Html) (ends : EndsIn rows a b gs x)
@@ -197,32 +197,32 @@ module _ (rows : List Row) (x : Ends) (a b c : Found) (gs ks : List Html) (ends 
 
 -- ---- inline partials
 
-module _ (is_user : Text → Bool) (rows : List Row) (n : Option Text) where
+module _ (registered : Text → Registered) (rows : List Row) (n : Option Text) where
   -- the body where a name is included in a state
   abbrev pub inline_ends : Decorator → Text → html.Html → Ends
   inline_ends t m h =
-      if may_name (inline_name (decorator_args t)) m then own_ends is_user rows n (decorator_body t) (h ∷ []) else ends_in []
+      if may_name (inline_name (decorator_args t)) m then own_ends registered rows n (decorator_body t) (h ∷ []) else ends_in []
 
   pub inline-named : (t : Decorator) (m : Text) (h : html.Html) → may_name (inline_name (decorator_args t)) m ≡ true
-      → inline_ends t m h ≡ own_ends is_user rows n (decorator_body t) (h ∷ [])
+      → inline_ends t m h ≡ own_ends registered rows n (decorator_body t) (h ∷ [])
   inline-named t m h is =
-      ap (λ (z : Bool). if z then own_ends is_user rows n (decorator_body t) (h ∷ []) else ends_in []) is
+      ap (λ (z : Bool). if z then own_ends registered rows n (decorator_body t) (h ∷ []) else ends_in []) is
 
   pub decorator-out : (t : Decorator) (hs : List html.Html) (a b : Found) (ks : List Html) → map html_of ks ≡ hs
-      → AddsFindings rows a b (findings_of_entered rows (inline_ends t)) → EndsIn rows a b ks (decorator_ends is_user rows n t hs)
+      → AddsFindings rows a b (findings_of_entered rows (inline_ends t)) → EndsIn rows a b ks (decorator_ends registered rows n t hs)
   decorator-out (decorator m xs w marks) hs a b ks copied adds = (copied, adds)
 
   pub inclusion-parts : (p : Option Position) (t : Decorator) (hs : List html.Html)
-      → inclusion_parts is_user rows n p (written_name (decorator_name t)) (decorator_marks t) hs
-      (own_ends is_user rows n (decorator_body t) (html.beginning ∷ []))
-      (own_ends is_user rows n (decorator_body t) (without_state hs html.beginning))
-      ≡ inclusion_ends is_user rows n p t hs
+      → inclusion_parts registered rows n p (written_name (decorator_name t)) (decorator_marks t) hs
+      (own_ends registered rows n (decorator_body t) (html.beginning ∷ []))
+      (own_ends registered rows n (decorator_body t) (without_state hs html.beginning))
+      ≡ inclusion_ends registered rows n p t hs
   inclusion-parts p (decorator m xs b marks) hs = refl
 
 -- ---- inclusions
 
 -- The parts of an inclusion, as they are found one after another, are its ends.
-pub inclusion-out : (is_user : Text → Bool) (rows : List Row) (s : Location) (n : Option Text) (marks : DecoratorMarks)
+pub inclusion-out : (registered : Text → Registered) (rows : List Row) (s : Location) (n : Option Text) (marks : DecoratorMarks)
     (hs : List html.Html) (ahead other : Ends) (a b c d e : Found) (ks ns os gs : List Html)
     → AddsFaults a b s (whys_of_indent marks ++ whys_of_name n hs)
     → EndsIn rows b c ks (record {
@@ -233,9 +233,9 @@ pub inclusion-out : (is_user : Text → Bool) (rows : List Row) (s : Location) (
     → map html_of gs ≡ with_states (map html_of ns)
     (with_states (if is_among hs html.beginning then map html_of ks else []) (map html_of os))
     → EndsIn rows a e gs
-    (inclusion_parts is_user rows (option_map (λ n. n.now) s.template_name) (option_map position_of s.position) n marks hs ahead
+    (inclusion_parts registered rows (option_map (λ n. n.now) s.template_name) (option_map position_of s.position) n marks hs ahead
     other)
-inclusion-out is_user rows s n marks hs ahead other a b c d e ks ns os gs wrong first named last ends =
+inclusion-out registered rows s n marks hs ahead other a b c d e ks ns os gs wrong first named last ends =
     let again = ends_in (if is_among hs html.beginning then ahead.states else []) in
     let later = either_ends (included_ends rows n hs) (either_ends again other) in
     let captured = both_findings ahead.findings (findings_in s (whys_of_captured ahead.states)) in

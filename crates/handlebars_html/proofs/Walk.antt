@@ -16,7 +16,7 @@ use Rattle.handlebars_html.proofs.Plans.{Meaning, AreMet, IsWell, TaskLeads, Pla
 use Rattle.handlebars_html.proofs.Programs.{Goes, name-well, return-goes, without_escaping-goes, template_text-goes}
 use Rattle.handlebars_html.proofs.Weaker.{Leads-weaker, ElementLeads-weaker}
 
-module _ (p : Setting) (rule : Rule) (table : Table rule) (meaning : Meaning p rule) (usual : IsUsual p table.is_user)
+module _ (p : Setting) (rule : Rule) (table : Table rule) (meaning : Meaning p rule) (usual : IsUsual p table.registered)
     (closed : IsClosed p rule table) where
   render_element-goes : (end : rule.Known → Type 0) (h : rule.Known) (s : State) (occurrence : Occurrence) (e : Element)
       → ElementLeads rule table e h end → Goes p rule table meaning true end h s (render_element occurrence e)

@@ -2,7 +2,7 @@
 use Rattle.std.proofs.Common.{Bool, true, false, Option, None, Some}
 use Rattle.handlebars_base.specs.Bytes.{Text}
 use Rattle.handlebars_template.specs.Tree.{Tree, tree, Elements, no_elements, element, Element, raw_string, html_expression, escaped_expression, helper_block, decorator_expression, decorator_block, partial_expression, partial_block, comment, Call, call, Decorator, decorator, Bodies, bodies, Body, no_body, body}
-use Rattle.handlebars_html.specs.Rule.{Rule, Table, Effect, one_branch, iterations, a_value, no_output, written_name, WrittenLeads, Leads, AllLead, ElementLeads, ExpressionLeads, BlockLeads, BodiesLead, BranchLeads, DecoratorLeads, InclusionLeads, BlockLeadsTo}
+use Rattle.handlebars_html.specs.Rule.{Rule, Table, Effect, one_branch, iterations, a_value, no_output, written_name, WrittenLeads, ValueLeads, Leads, AllLead, ElementLeads, ExpressionLeads, BlockLeads, BodiesLead, BranchLeads, DecoratorLeads, InclusionLeads, BlockLeadsTo}
 
 module _ (rule : Rule) (table : Table rule) where
   abbrev IsWeaker : (rule.Known → Type 0) → (rule.Known → Type 0) → Type 0
@@ -15,6 +15,11 @@ module _ (rule : Rule) (table : Table rule) where
     λ named. let k = is.0 named in (k.0, to _ k.1),
     λ other. let k = is.1 other in (k.0, λ g last. to g (k.1 g last)),
   )
+
+  ValueLeads-weaker : (url escapes : Bool) (h : rule.Known) (a b : rule.Known → Type 0) → IsWeaker a b
+      → ValueLeads rule table url escapes h a → ValueLeads rule table url escapes h b
+  ValueLeads-weaker true escapes h a b to is = (is.0, to _ is.1)
+  ValueLeads-weaker false escapes h a b to is = (is.0, to _ is.1)
 
   mutual
     pub Leads-weaker : (t : Tree) (h : rule.Known) (a b : rule.Known → Type 0) → IsWeaker a b → Leads rule table t h a
@@ -44,7 +49,8 @@ module _ (rule : Rule) (table : Table rule) where
 
     ExpressionLeads-weaker : (c : Call) (escapes : Bool) (h : rule.Known) (a b : rule.Known → Type 0) → IsWeaker a b
         → ExpressionLeads rule table c escapes h a → ExpressionLeads rule table c escapes h b
-    ExpressionLeads-weaker (call n xs x (bodies y z) marks) escapes h a b to is = (is.0, to _ is.1, is.2, is.3)
+    ExpressionLeads-weaker (call n xs x (bodies y z) marks) escapes h a b to is =
+        (ValueLeads-weaker _ escapes h a b to is.0, is.1, is.2)
 
     BlockLeads-weaker : (c : Call) (h : rule.Known) (a b : rule.Known → Type 0) → IsWeaker a b → BlockLeads rule table c h a
         → BlockLeads rule table c h b

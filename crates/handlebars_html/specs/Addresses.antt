@@ -82,3 +82,8 @@ is_safe_value (loaded t) = false
 is_safe_value loaded_slash = false
 is_safe_value loaded_authority = false
 is_safe_value loaded_host = false
+
+-- where an address begins that is followed
+abbrev pub begins_address : Value → Bool
+begins_address (followed []) = true
+begins_address v = false

@@ -6,14 +6,14 @@ use Rattle.std.specs.Str.{bytes_eq}
 use Rattle.handlebars_base.specs.Bytes.{Text, space}
 use Rattle.handlebars_base.specs.Optional.{with_or}
 use Rattle.handlebars_template.specs.Position.{Position}
-use Rattle.handlebars_template.specs.Tree.{Tree, tree, Elements, no_elements, element, Element, raw_string, html_expression, escaped_expression, helper_block, decorator_expression, decorator_block, partial_expression, partial_block, comment, Call, call, Decorator, decorator, DecoratorMarks, Bodies, bodies, Body, no_body, body}
+use Rattle.handlebars_template.specs.Tree.{Tree, tree, Elements, no_elements, element, Element, raw_string, html_expression, escaped_expression, helper_block, decorator_expression, decorator_block, partial_expression, partial_block, comment, Call, call, call_bodies, Decorator, decorator, DecoratorMarks, Bodies, bodies, Body, no_body, body}
 use Rattle.handlebars_semantics.specs.Including.{partial_block_name}
-use Rattle.handlebars_html.specs.Tokenizer.{Tokenizer, stuck, is_refused}
-use Rattle.handlebars_html.specs.Html.{Html, beginning, step, after, is_safe, after_data, is_blank}
-use Rattle.handlebars_html.specs.Rule.{Effect, one_branch, iterations, a_value, no_output, effect_named, written_name, inline_name}
+use Rattle.handlebars_html.specs.Tokenizer.{Tokenizer, misled, stuck, is_refused}
+use Rattle.handlebars_html.specs.Html.{Html, beginning, step, after, is_safe, after_data, may_hold_url, after_url, is_blank}
+use Rattle.handlebars_html.specs.Rule.{Registered, writes_url, Effect, one_branch, iterations, a_value, no_output, effect_named, written_name, inline_name}
 use Rattle.handlebars_html.specs.Same.{is_same}
 use Rattle.handlebars_html.specs.Rows.{is_among, with_states, each_state, without_state, Row, entering, leaving, leaving_states, leavings}
-use Rattle.handlebars_html.specs.Faults.{Why, unsafe_value, unread_value, unescaped_value, changed_text, late_attribute, changed_by_iteration, changed_by_block, captured_text_in, made_inclusion, made_block, other_indent, expression_bodies, Fault, faults_at, unless, with_faults}
+use Rattle.handlebars_html.specs.Faults.{Why, unsafe_value, unread_value, unescaped_value, changed_text, late_attribute, changed_address, changed_by_iteration, changed_by_block, captured_text_in, made_inclusion, made_block, other_indent, expression_bodies, Fault, faults_at, unless, with_faults}
 
 -- ---- what is found
 
@@ -71,15 +71,20 @@ then_ends x f = found_before x.findings (f x.states)
 
 -- ---- texts and values
 
--- A text changes nothing of what an attribute before it means, in which data may stand.
+-- A text changes nothing of what data before it means.
 abbrev pub is_in_time : Text → Html → Bool
 is_in_time t h = not (is_refused (after h t).tokenizer)
+
+-- a text that leads to this state, to which none may lead
+abbrev pub why_refused : Tokenizer → Why
+why_refused misled = changed_address
+why_refused t = late_attribute
 
 -- A text of a template is read from this state. A blank before it makes no difference, and it changes nothing of what was before,
 -- or that is a fault.
 abbrev pub whys_of_text : Text → Html → List Why
 whys_of_text t h =
-    unless (is_same (after (step h space) t) (after h t)) (changed_text h) ++ unless (is_in_time t h) late_attribute
+    unless (is_same (after (step h space) t) (after h t)) (changed_text h) ++ unless (is_in_time t h) (why_refused (after h t).tokenizer)
 
 -- a value in a state in which data may not stand
 abbrev pub why_unsafe : Tokenizer → Html → Why
@@ -89,6 +94,10 @@ why_unsafe t h = unsafe_value h
 -- A value stands in this state. Data may, or that is a fault.
 abbrev pub whys_of_value : Html → List Why
 whys_of_value h = unless (is_safe h) (why_unsafe h.tokenizer h)
+
+-- An address that runs no script stands in this state. It may, or that is a fault.
+abbrev pub whys_of_url : Html → List Why
+whys_of_url h = unless (may_hold_url h) (why_unsafe h.tokenizer h)
 
 -- whether there is no body
 abbrev pub lacks_body : Body → Bool
@@ -164,9 +173,10 @@ later_positions (p ∷ ps) = ps
 
 -- ---- trees
 
--- A tree in the template of this name is read once from all of these states. After a fault it is read on, as if there were none,
--- so that all faults are found.
-module _ (is_user : Text → Bool) (rows : List Row) (template : Option Text) where
+-- A tree in the template of this name is read once from all of these states. After a fault it is read on, as if there were none, so
+-- that later faults are found too; but not on a way on which a text changes what was before, and not in a block whose name is made
+-- when it is rendered.
+module _ (registered : Text → Registered) (rows : List Row) (template : Option Text) where
   -- these faults, at this position of the template
   abbrev pub findings_at : Option Position → List Why → Findings
   findings_at p ws = found_faults (faults_at template p ws)
@@ -186,9 +196,15 @@ module _ (is_user : Text → Bool) (rows : List Row) (template : Option Text) wh
   abbrev pub html_expression_ends : Option Position → List Html → Ends
   html_expression_ends p hs = record { states = each_state after_data hs; findings = findings_at p (unescaped_value ∷ []) }
 
-  -- An expression writes a value, and has no bodies.
+  -- An address that runs no script may also stand where an address begins.
+  abbrev pub url_ends : Option Position → List Html → Ends
+  url_ends p hs = record { states = each_state after_url hs; findings = findings_at p (flat_map whys_of_url hs) }
+
+  -- An expression writes a value, which may be known to be such an address, and has no bodies.
   abbrev pub expression_ends : Option Position → Call → List Html → Ends
-  expression_ends p (call n xs b t marks) hs = found_before (findings_at p (whys_of_bodies t)) (value_ends p hs)
+  expression_ends p c hs =
+      found_before (findings_at p (whys_of_bodies (call_bodies c)))
+      (if writes_url registered c then url_ends p hs else value_ends p hs)
 
   -- One iteration begins in this state and ends so. The fault that it ends elsewhere comes after those in it.
   abbrev pub iteration_findings : Option Position → Html → Ends → Findings
@@ -230,7 +246,7 @@ module _ (is_user : Text → Bool) (rows : List Row) (template : Option Text) wh
     -- The bodies of a block whose name is made when it is rendered are not checked.
     pub block_ends : Option Position → Call → List Html → Ends
     block_ends p (call n xs b t marks) hs =
-        with_or (written_name n) (λ m. bodies_ends p t (effect_named is_user m) hs)
+        with_or (written_name n) (λ m. bodies_ends p t (effect_named registered m) hs)
         (record { states = hs; findings = findings_at p (made_block ∷ []) })
 
     -- by what the block does: iterations may also be none, and then there may be an inverse

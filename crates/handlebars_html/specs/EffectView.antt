@@ -2,6 +2,13 @@
 use Rattle.handlebars_html.specs.Rule as rule
 use Rattle.handlebars_html.specs.declared.effect.Effect.{Effect}
 use Rattle.handlebars_html.specs.declared.effect.Effect.TheVariants as effect
+use Rattle.handlebars_html.specs.declared.effect.Registered.{Registered}
+use Rattle.handlebars_html.specs.declared.effect.Registered.TheVariants as registered
+
+abbrev pub registered_view : Registered → rule.Registered
+registered_view registered.AsFirst = rule.as_first
+registered_view registered.UserValues = rule.user_values
+registered_view registered.UserUrls = rule.user_urls
 
 abbrev pub effect_view : Effect → rule.Effect
 effect_view effect.OneBranch = rule.one_branch

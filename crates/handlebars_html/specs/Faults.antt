@@ -12,6 +12,7 @@ use Rattle.handlebars_html.specs.Same.{is_same}
 -- - An html expression writes its value unescaped.
 -- - A text stands in this state, in which a blank before it, as an indentation may write it, would change what it means.
 -- - A text changes what an attribute before it means, in which data may stand.
+-- - A text would make a scheme of an address that was written as a value.
 -- - Iterations begin in the first state, and one of them ends in the second.
 -- - A block that may be captured ends in this state, and not in that in which captured text begins.
 -- - Captured text is included in this state, and not in that in which captured text begins.
@@ -31,6 +32,7 @@ pub data Why : Type 0 where
   unescaped_value : Why
   changed_text : Html → Why
   late_attribute : Why
+  changed_address : Why
   changed_by_iteration : Html → Html → Why
   changed_by_block : Html → Why
   captured_text_in : Html → Why
@@ -74,6 +76,7 @@ is_same_why unread_value unread_value = true
 is_same_why unescaped_value unescaped_value = true
 is_same_why (changed_text h) (changed_text g) = is_same h g
 is_same_why late_attribute late_attribute = true
+is_same_why changed_address changed_address = true
 is_same_why (changed_by_iteration h k) (changed_by_iteration g l) = is_same h g && is_same k l
 is_same_why (changed_by_block h) (changed_by_block g) = is_same h g
 is_same_why (captured_text_in h) (captured_text_in g) = is_same h g

@@ -2,7 +2,7 @@
 use Rattle.std.specs.Prelude.{ℕ, Bool, true, false, not, ◌&&◌, ◌||◌, ◌==◌, if◌then◌else◌, [], ◌∷◌, Option, None, Some, codes}
 use Rattle.handlebars_base.specs.Bytes.{Text, tab, space, less_than_sign, greater_than_sign}
 use Rattle.handlebars_html.specs.Tags.{Content, markup, inner_text, script_text, svg_begins, svg_ends, html_in_svg, foreign_markup, noscript_begins, noscript_ends, plaintext, Tag}
-use Rattle.handlebars_html.specs.Tokenizer.{Tokenizer, in_data, tag_open, in_text, text_tag_open, in_script, comment_unclear, late, stuck, open_tag, next, is_comment, is_safe_tokenizer}
+use Rattle.handlebars_html.specs.Tokenizer.{Tokenizer, in_data, tag_open, in_text, text_tag_open, in_script, comment_unclear, late, misled, stuck, open_tag, next, is_comment, is_safe_tokenizer, begins_url, after_address}
 
 -- Where a script may be read as markup: nowhere; within `svg`, which ends with the next `</svg>`, since all within it are
 -- elements of SVG (HTML 13.2.6.5, any other end tag); or from here on, after an `svg` within another one or with HTML in it, and
@@ -80,6 +80,7 @@ begins_tag tag_open = true
 begins_tag (in_text safe n) = true
 begins_tag (text_tag_open safe n) = true
 begins_tag late = true
+begins_tag misled = true
 begins_tag t = false
 
 abbrev pub begin_tag : Html → Html
@@ -107,6 +108,14 @@ is_safe h = is_safe_tokenizer h.tokenizer
 -- What is known of the state after data: in a comment the data may have ended with dashes; elsewhere the state is as before.
 abbrev pub after_data : Html → Html
 after_data h = record h { tokenizer = if is_comment h.tokenizer then comment_unclear else h.tokenizer }
+
+-- An address that runs no script may also stand where one begins that is followed.
+abbrev pub may_hold_url : Html → Bool
+may_hold_url h = is_safe h || begins_url h.tokenizer
+
+-- What is known of the state after it: there it is a whole address.
+abbrev pub after_url : Html → Html
+after_url h = if begins_url h.tokenizer then record h { tokenizer = after_address h.tokenizer } else after_data h
 
 -- Data that is escaped has none of the bytes that escaping replaces (`Escape` of the base crate), but for `&`. Of those no
 -- state in which data may stand is left by an `&`.

@@ -72,6 +72,7 @@ plain_of plain.Script = tokenizer.in_script
 plain_of plain.ScriptTagOpen = tokenizer.script_tag_open
 plain_of plain.TextEnd = tokenizer.text_end
 plain_of plain.Late = tokenizer.late
+plain_of plain.Misled = tokenizer.misled
 plain_of plain.Stuck = tokenizer.stuck
 
 abbrev pub tokenizer_of : Tokenizer → tokenizer.Tokenizer
@@ -82,6 +83,7 @@ tokenizer_of (state.AttributeName t n) = tokenizer.attribute_name (tag_view t) n
 tokenizer_of (state.AfterAttribute t n) = tokenizer.after_attribute (tag_view t) n.items
 tokenizer_of (state.BeforeValue t v) = tokenizer.before_value (tag_view t) (value_of v)
 tokenizer_of (state.Quoted double t v) = tokenizer.quoted double (tag_view t) (value_of v)
+tokenizer_of (state.InUrl double t) = tokenizer.in_url double (tag_view t)
 tokenizer_of (state.Unquoted t) = tokenizer.unquoted (tag_view t)
 tokenizer_of (state.InText safe n) = tokenizer.in_text safe n.items
 tokenizer_of (state.TextTagOpen safe n) = tokenizer.text_tag_open safe n.items

@@ -1,22 +1,22 @@
 -- How the definitions view what a template is read by, and its ends then.
-use Rattle.std.specs.Prelude.{Bool, if◌then◌else◌, List, [], ◌∷◌, Option, option_map}
+use Rattle.std.specs.Prelude.{if◌then◌else◌, List, [], ◌∷◌, Option, option_map}
 use Rattle.handlebars_base.specs.Bytes.{Text}
 use Rattle.handlebars_template.specs.Position.{Position}
 use Rattle.handlebars_template.specs.Tree.{Tree, Element, Call, Bodies, Body, Decorator, decorator_args, decorator_body}
 use Rattle.handlebars_template.specs.TreeView.{position_of}
 use Rattle.handlebars_html.specs.Html.{Html, beginning}
-use Rattle.handlebars_html.specs.Rule.{Effect, inline_name}
+use Rattle.handlebars_html.specs.Rule.{Registered, Effect, inline_name}
 use Rattle.handlebars_html.specs.Rows.{Row}
 use Rattle.handlebars_html.specs.Check as check
-use Rattle.handlebars_html.specs.Registry.{is_user_in}
+use Rattle.handlebars_html.specs.Registry.{registered_in}
 use Rattle.handlebars_html.specs.RowsView.{rows_of}
 use Rattle.handlebars_html.specs.SearchView.{user_defined_of}
 use Rattle.handlebars_html.specs.declared.reading.Reading.{Reading}
 
 module _ (r : Reading) where
-  -- User-defined helpers are registered under these names.
-  abbrev pub is_user_at : Text → Bool
-  is_user_at = is_user_in (user_defined_of r.user.now)
+  -- what is registered under the names of helpers
+  abbrev pub registered_at : Text → Registered
+  registered_at = registered_in (user_defined_of r.user.now)
 
   -- the rows of its table
   abbrev pub rows_at : List Row
@@ -33,31 +33,31 @@ module _ (r : Reading) where
   -- ---- ends
 
   abbrev pub tree_ends_at : Tree → List Html → check.Ends
-  tree_ends_at t hs = check.tree_ends is_user_at rows_at name_at t hs
+  tree_ends_at t hs = check.tree_ends registered_at rows_at name_at t hs
 
   abbrev pub element_ends_at : Element → List Html → check.Ends
-  element_ends_at e hs = check.element_ends is_user_at rows_at name_at position_at e hs
+  element_ends_at e hs = check.element_ends registered_at rows_at name_at position_at e hs
 
   abbrev pub expression_ends_at : Call → List Html → check.Ends
-  expression_ends_at c hs = check.expression_ends is_user_at rows_at name_at position_at c hs
+  expression_ends_at c hs = check.expression_ends registered_at rows_at name_at position_at c hs
 
   abbrev pub block_ends_at : Call → List Html → check.Ends
-  block_ends_at c hs = check.block_ends is_user_at rows_at name_at position_at c hs
+  block_ends_at c hs = check.block_ends registered_at rows_at name_at position_at c hs
 
   abbrev pub bodies_ends_at : Bodies → Effect → List Html → check.Ends
-  bodies_ends_at t e hs = check.bodies_ends is_user_at rows_at name_at position_at t e hs
+  bodies_ends_at t e hs = check.bodies_ends registered_at rows_at name_at position_at t e hs
 
   abbrev pub branch_ends_at : Body → List Html → check.Ends
-  branch_ends_at b hs = check.branch_ends is_user_at rows_at name_at b hs
+  branch_ends_at b hs = check.branch_ends registered_at rows_at name_at b hs
 
   abbrev pub own_ends_at : Body → List Html → check.Ends
-  own_ends_at b hs = check.own_ends is_user_at rows_at name_at b hs
+  own_ends_at b hs = check.own_ends registered_at rows_at name_at b hs
 
   abbrev pub decorator_ends_at : Decorator → List Html → check.Ends
-  decorator_ends_at t hs = check.decorator_ends is_user_at rows_at name_at t hs
+  decorator_ends_at t hs = check.decorator_ends registered_at rows_at name_at t hs
 
   abbrev pub inclusion_ends_at : Decorator → List Html → check.Ends
-  inclusion_ends_at t hs = check.inclusion_ends is_user_at rows_at name_at position_at t hs
+  inclusion_ends_at t hs = check.inclusion_ends registered_at rows_at name_at position_at t hs
 
   -- the block of an inclusion as it is captured, with what is wrong with its ends
   abbrev pub captured_at : Decorator → check.Ends
@@ -65,7 +65,7 @@ module _ (r : Reading) where
       let x = own_ends_at (decorator_body t) (beginning ∷ []) in record {
         states = x.states;
         findings = check.both_findings x.findings
-            (check.findings_at is_user_at rows_at name_at position_at (check.whys_of_captured x.states));
+            (check.findings_at registered_at rows_at name_at position_at (check.whys_of_captured x.states));
       }
 
   -- an inline partial, where something is included by a name in a state
@@ -75,4 +75,4 @@ module _ (r : Reading) where
 
   -- what is found in one iteration of a body from a state
   abbrev pub iteration_at : Body → Html → check.Findings
-  iteration_at b h = check.iteration_findings is_user_at rows_at name_at position_at h (branch_ends_at b (h ∷ []))
+  iteration_at b h = check.iteration_findings registered_at rows_at name_at position_at h (branch_ends_at b (h ∷ []))

@@ -7,17 +7,21 @@ use Rattle.handlebars_base.specs.Optional.{with_or}
 use Rattle.handlebars_helpers.specs.Callee.{Callee, user, first_callee}
 use Rattle.handlebars_helpers.specs.Decoration.{DecoratorKind, built_in_decorator}
 use Rattle.handlebars_helpers.specs.Escaping.{Escaping, for_html, for_plain, by_user}
+use Rattle.handlebars_helpers.specs.SafeUrl.{GivesUrls}
 use Rattle.handlebars_helpers.specs.UserHelper.{UserHelper, GivesValues}
 use Rattle.handlebars_semantics.specs.State.{Parts, Setting, hook}
 use Rattle.handlebars_html.specs.Ascii.{is_one_of}
+use Rattle.handlebars_html.specs.Rule.{Registered, as_first, user_values, user_urls}
 use Rattle.handlebars_html.specs.Usual.{IsUsual}
 use Rattle.handlebars_html.specs.Faults.{Why, other_escape, helper_with_steps, misplaced_helper, user_hook, user_decorator, Fault, faults_at, unless}
 
 -- ---- what is registered otherwise than at the start
 
--- What is registered under the name of a helper: a user-defined helper that is known to give values alone; another user-defined
--- helper; or what is misplaced: a built-in helper under another name than its own, or nothing under the name of one.
+-- What is registered under the name of a helper: a user-defined helper that is known to give values alone, each of which is written
+-- as an address that runs no script; one that is known to give values alone; another user-defined helper; or what is misplaced: a
+-- built-in helper under another name than its own, or nothing under the name of one.
 pub data OtherKind : Type 0 where
+  gives_urls : OtherKind
   gives_values : OtherKind
   may_have_steps : OtherKind
   misplaced : OtherKind
@@ -30,17 +34,33 @@ pub record UserDefined : Type 0 where
   pub decorators : List Text
 
 -- whether a helper is listed under this name
-abbrev pub is_user_in : UserDefined → Text → Bool
-is_user_in r n = list_any (λ (x : Text × OtherKind). bytes_eq x.0 n) r.helpers
+abbrev pub is_listed : List (Text × OtherKind) → Text → Bool
+is_listed xs n = list_any (λ (x : Text × OtherKind). bytes_eq x.0 n) xs
+
+-- What is listed is user-defined, and gives values, or it is a fault.
+abbrev pub registered_as : OtherKind → Registered
+registered_as gives_urls = user_urls
+registered_as gives_values = user_values
+registered_as may_have_steps = user_values
+registered_as misplaced = user_values
+
+-- what is registered under this name, by what is listed first under it
+abbrev pub registered_among : List (Text × OtherKind) → Text → Registered
+registered_among [] n = as_first
+registered_among (x ∷ xs) n = if bytes_eq x.0 n then registered_as x.1 else registered_among xs n
+
+abbrev pub registered_in : UserDefined → Text → Registered
+registered_in r n = registered_among r.helpers n
 
 -- whether something holds
-abbrev pub IsFirstIf : Bool → Type 0 → Type 0
-IsFirstIf true X = X
-IsFirstIf false X = X → ⊥
+abbrev pub HoldsIf : Bool → Type 0 → Type 0
+HoldsIf true X = X
+HoldsIf false X = X → ⊥
 
 module _ (helper : Text → Option Callee) (users : Text → UserHelper) where
   -- What is registered under this name is of this kind.
   abbrev pub IsOther : Text → OtherKind → Type 0
+  IsOther n gives_urls = (helper n ≡ Some (user n)) × GivesUrls (users n)
   IsOther n gives_values = (helper n ≡ Some (user n)) × GivesValues (users n)
   IsOther n may_have_steps = helper n ≡ Some (user n)
   IsOther n misplaced = (helper n ≢ Some (user n)) × (helper n ≢ first_callee n)
@@ -58,12 +78,12 @@ module _ (helper : Text → Option Callee) (users : Text → UserHelper) where
   -- Each name is listed under which another helper is registered than at the start, with its kind, and only those are.
   pub record ListsHelpers (xs : List (Text × OtherKind)) : Type 0 where
     pub listed : AllByRecursion (λ (x : Text × OtherKind). IsOther x.0 x.1) xs
-    pub others : (n : Text) → list_any (λ (x : Text × OtherKind). bytes_eq x.0 n) xs ≡ false → helper n ≡ first_callee n
+    pub others : (n : Text) → is_listed xs n ≡ false → helper n ≡ first_callee n
 
 -- The name is added to what is listed, unless the decorator under it is what every registry begins with.
 abbrev pub AddsDecorator : (Text → Option DecoratorKind) → Text → List Text → List Text → Type 0
 AddsDecorator kind n before after =
-    (b : Bool) × IsFirstIf b (kind n ≡ built_in_decorator n) × (after ≡ if b then before else before ++ n ∷ [])
+    (b : Bool) × HoldsIf b (kind n ≡ built_in_decorator n) × (after ≡ if b then before else before ++ n ∷ [])
 
 -- Each name is listed under which another decorator is registered than at the start, and only those are.
 pub record ListsDecorators (kind : Text → Option DecoratorKind) (ns : List Text) : Type 0 where
@@ -99,6 +119,7 @@ whys_of_hook n = unless (not (is_hook n)) (user_hook n)
 
 -- A user-defined helper gives values alone, and nothing is misplaced, or that is a fault.
 abbrev pub whys_of_kind : Text → OtherKind → List Why
+whys_of_kind n gives_urls = whys_of_hook n
 whys_of_kind n gives_values = whys_of_hook n
 whys_of_kind n may_have_steps = helper_with_steps n ∷ whys_of_hook n
 whys_of_kind n misplaced = misplaced_helper n ∷ []
@@ -116,4 +137,4 @@ faults_of_registry r =
 -- A registry without faults escapes for html and has usual parts.
 abbrev pub HasUsualParts : Setting → Type 0
 HasUsualParts p =
-    (r : UserDefined) → Lists p.parts r → faults_of_registry r ≡ [] → (p.parts.escape ≡ for_html) × IsUsual p (is_user_in r)
+    (r : UserDefined) → Lists p.parts r → faults_of_registry r ≡ [] → (p.parts.escape ≡ for_html) × IsUsual p (registered_in r)

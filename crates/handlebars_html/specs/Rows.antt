@@ -4,7 +4,7 @@ use Rattle.std.specs.List.{filter}
 use Rattle.std.specs.Str.{bytes_eq}
 use Rattle.handlebars_base.specs.Bytes.{Text}
 use Rattle.handlebars_html.specs.Html.{Html}
-use Rattle.handlebars_html.specs.Rule.{Table}
+use Rattle.handlebars_html.specs.Rule.{Registered, Table}
 use Rattle.handlebars_html.specs.Safety.{html_rule}
 use Rattle.handlebars_html.specs.Same.{is_same}
 
@@ -77,10 +77,10 @@ leavings n h gs = map (λ g. leaving n h g) gs
 
 -- ---- tables
 
--- the table of these rows, with user-defined helpers under these names
-abbrev pub table_of : (Text → Bool) → List Row → Table html_rule
-table_of is_user rows = record {
-  is_user = is_user;
+-- the table of these rows, with these helpers
+abbrev pub table_of : (Text → Registered) → List Row → Table html_rule
+table_of registered rows = record {
+  registered = registered;
   enters = λ n h. has_entering rows n h ≡ true;
   leaves = λ n h g. is_among (leaving_states rows n h) g ≡ true;
 }

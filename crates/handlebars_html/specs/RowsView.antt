@@ -24,6 +24,7 @@ why_of reason.UnreadValue = faults.unread_value
 why_of reason.UnescapedValue = faults.unescaped_value
 why_of (reason.ChangedText h) = faults.changed_text (html_of h)
 why_of reason.LateAttribute = faults.late_attribute
+why_of reason.ChangedAddress = faults.changed_address
 why_of (reason.ChangedByIteration h g) = faults.changed_by_iteration (html_of h) (html_of g)
 why_of (reason.ChangedByBlock h) = faults.changed_by_block (html_of h)
 why_of (reason.CapturedTextIn h) = faults.captured_text_in (html_of h)

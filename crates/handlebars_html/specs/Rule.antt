@@ -1,13 +1,13 @@
 -- Rules of what templates may write, and the demands of a rule on a template: as weakest preconditions, of which each says
 -- from which state an element leads to an end.
-use Rattle.std.specs.Prelude.{◌≡◌, Bool, true, false, if◌then◌else◌, Option, None, Some, unwrap_or, []}
+use Rattle.std.specs.Prelude.{◌≡◌, Bool, true, false, not, ◌&&◌, Option, None, Some, unwrap_or, []}
 use Rattle.std.specs.Str.{bytes_eq}
 use Rattle.serde_json.specs.Data.{string}
 use Rattle.handlebars_base.specs.Bytes.{Text}
 use Rattle.handlebars_base.specs.Optional.{with_or}
 use Rattle.handlebars_base.specs.Path.{raw_of}
 use Rattle.handlebars_base.specs.Values.{rendered}
-use Rattle.handlebars_template.specs.Tree.{Tree, tree, Elements, no_elements, element, Element, raw_string, html_expression, escaped_expression, helper_block, decorator_expression, decorator_block, partial_expression, partial_block, comment, Call, call, Decorator, decorator, Args, args, Param, name, path, literal, subexpression, param, Bodies, bodies, Body, no_body, body}
+use Rattle.handlebars_template.specs.Tree.{Tree, tree, Elements, no_elements, element, Element, raw_string, html_expression, escaped_expression, helper_block, decorator_expression, decorator_block, partial_expression, partial_block, comment, Call, call, call_name, is_value, Decorator, decorator, Args, args, Param, name, path, literal, subexpression, param, Bodies, bodies, Body, no_body, body}
 use Rattle.handlebars_helpers.specs.Choice.{BuiltInKind, kind_each, kind_lookup, kind_log, kind_len, built_in}
 use Rattle.handlebars_semantics.specs.Including.{partial_block_name}
 
@@ -15,6 +15,7 @@ use Rattle.handlebars_semantics.specs.Including.{partial_block_name}
 -- - what an element demands of the state before it, whatever it writes;
 -- - which texts of a template may stand in a state, and the state after one;
 -- - in which states a value may stand, escaped or not, and the state after one;
+-- - in which states an address that runs no script may stand, escaped, and the state after one;
 -- - which indentations may be written before lines;
 -- - the state in which captured text may stand, and in which the block begins and ends that is captured.
 pub record Rule : Type 1 where
@@ -24,13 +25,22 @@ pub record Rule : Type 1 where
   pub after_text : Text → Known → Known
   pub MayValue : Bool → Known → Type 0
   pub after_value : Bool → Known → Known
+  pub MayUrl : Known → Type 0
+  pub after_url : Known → Known
   pub MayIndent : Text → Type 0
   pub captured : Known
 
--- What is known of names. Under these names user-defined helpers are registered. For each name of templates: the states in
--- which it may be included, and for each of them those in which what is included may end.
+-- What is registered under a name: what every registry begins with; a user-defined helper that gives values; or one of which
+-- each value is written as an address that runs no script.
+pub data Registered : Type 0 where
+  as_first : Registered
+  user_values : Registered
+  user_urls : Registered
+
+-- What is known of names: what is registered under each; and for each name of templates the states in which it may be included,
+-- and for each of them those in which what is included may end.
 pub record Table (rule : Rule) : Type 1 where
-  pub is_user : Text → Bool
+  pub registered : Text → Registered
   pub enters : Text → rule.Known → Type 0
   pub leaves : Text → rule.Known → rule.Known → Type 0
 
@@ -52,8 +62,13 @@ effect_of kind_log = no_output
 effect_of kind = one_branch
 
 -- A user-defined helper writes a value. A name that is no helper's is a section's.
-abbrev pub effect_named : (Text → Bool) → Text → Effect
-effect_named is_user n = if is_user n then a_value else with_or (built_in n) effect_of iterations
+abbrev pub effect_as : Registered → Text → Effect
+effect_as as_first n = with_or (built_in n) effect_of iterations
+effect_as user_values n = a_value
+effect_as user_urls n = a_value
+
+abbrev pub effect_named : (Text → Registered) → Text → Effect
+effect_named registered n = effect_as (registered n) n
 
 -- ---- names that are written in a template
 
@@ -67,6 +82,15 @@ written_name (subexpression e) = None
 abbrev pub inline_name : Args → Option Text
 inline_name (args (param (literal (string n)) ps) hs) = Some n
 inline_name xs = None
+
+abbrev pub are_urls : Registered → Bool
+are_urls as_first = false
+are_urls user_values = false
+are_urls user_urls = true
+
+-- An expression calls a helper of addresses, by a name that is written, with arguments.
+abbrev pub writes_url : (Text → Registered) → Call → Bool
+writes_url registered c = not (is_value c) && with_or (written_name (call_name c)) (λ n. are_urls (registered n)) false
 
 -- The name is the written one, if one is written. Otherwise it may be any.
 abbrev pub IsNamed : Option Text → Text → Type 0
@@ -95,6 +119,11 @@ module _ (rule : Rule) (table : Table rule) where
   WrittenLeads None h end = ⊥
   WrittenLeads (Some n) h end = NameLeads n h end
 
+  -- a value, which is an address that runs no script or not, and escaped or not
+  abbrev pub ValueLeads : Bool → Bool → Demand
+  ValueLeads false escapes h end = rule.MayValue escapes h × end (rule.after_value escapes h)
+  ValueLeads true escapes h end = rule.MayUrl h × end (rule.after_url h)
+
   -- From the state each way through leads to a state in which the end holds.
   abbrev mutual
     pub Leads : Tree → Demand
@@ -118,12 +147,13 @@ module _ (rule : Rule) (table : Table rule) where
     -- An expression writes a value, escaped or not, or nothing. One with bodies is in no source.
     pub ExpressionLeads : Call → Bool → Demand
     ExpressionLeads (call n xs b (bodies x y) marks) escapes h end =
-        rule.MayValue escapes h × end (rule.after_value escapes h) × LacksBody x × LacksBody y
+        ValueLeads (escapes && writes_url table.registered (call n xs b (bodies x y) marks)) escapes h end
+        × LacksBody x × LacksBody y
 
     -- The name of a block is written.
     pub BlockLeads : Call → Demand
     BlockLeads (call n xs b t marks) h end =
-        (m : Text) × (written_name n ≡ Some m) × BodiesLead t (effect_named table.is_user m) h end
+        (m : Text) × (written_name n ≡ Some m) × BodiesLead t (effect_named table.registered m) h end
 
     -- Iterations come back to the state in which the first begins.
     pub BodiesLead : Bodies → Effect → Demand

@@ -3,7 +3,7 @@ use Rattle.std.specs.Prelude.{◌≡◌, ◌↔◌, Bool, true, false, ◌&&◌}
 use Rattle.std.specs.Str.{bytes_eq}
 use Rattle.handlebars_html.specs.Addresses.{Value, harmless, forbidden, followed, loaded, loaded_slash, loaded_authority, loaded_host}
 use Rattle.handlebars_html.specs.Tags.{Content, markup, inner_text, script_text, svg_begins, svg_ends, html_in_svg, foreign_markup, noscript_begins, noscript_ends, plaintext, Attributes, common, of_active, of_showing, of_loading, of_meta, meta_content, meta_pragma, Tag}
-use Rattle.handlebars_html.specs.Tokenizer.{Tokenizer, in_data, tag_open, end_tag_open, tag_name, before_attribute, attribute_name, after_attribute, before_value, quoted, unquoted, declaration, declaration_dash, bogus, comment_start, comment_start_dash, in_comment, comment_dash, comment_end, comment_bang, comment_unclear, comment_unclear_dash, in_text, text_tag_open, text_end_name, in_script, script_tag_open, script_end_name, text_end, late, stuck}
+use Rattle.handlebars_html.specs.Tokenizer.{Tokenizer, in_data, tag_open, end_tag_open, tag_name, before_attribute, attribute_name, after_attribute, before_value, quoted, in_url, unquoted, declaration, declaration_dash, bogus, comment_start, comment_start_dash, in_comment, comment_dash, comment_end, comment_bang, comment_unclear, comment_unclear_dash, in_text, text_tag_open, text_end_name, in_script, script_tag_open, script_end_name, text_end, late, misled, stuck}
 use Rattle.handlebars_html.specs.Html.{Foreign, outside, in_svg, anywhere, Context, Html}
 
 abbrev pub is_same_bool : Bool → Bool → Bool
@@ -57,6 +57,7 @@ is_same_tokenizer (attribute_name s n) (attribute_name t m) = is_same_tag s t &&
 is_same_tokenizer (after_attribute s n) (after_attribute t m) = is_same_tag s t && bytes_eq n m
 is_same_tokenizer (before_value s v) (before_value t w) = is_same_tag s t && is_same_value v w
 is_same_tokenizer (quoted x s v) (quoted y t w) = is_same_bool x y && (is_same_tag s t && is_same_value v w)
+is_same_tokenizer (in_url x s) (in_url y t) = is_same_bool x y && is_same_tag s t
 is_same_tokenizer (unquoted s) (unquoted t) = is_same_tag s t
 is_same_tokenizer declaration declaration = true
 is_same_tokenizer declaration_dash declaration_dash = true
@@ -77,6 +78,7 @@ is_same_tokenizer script_tag_open script_tag_open = true
 is_same_tokenizer (script_end_name n) (script_end_name m) = bytes_eq n m
 is_same_tokenizer text_end text_end = true
 is_same_tokenizer late late = true
+is_same_tokenizer misled misled = true
 is_same_tokenizer stuck stuck = true
 is_same_tokenizer x y = false
 

@@ -12,7 +12,7 @@ use Rattle.handlebars_semantics.specs.Pieces.{Piece}
 use Rattle.handlebars_semantics.specs.Runs.{Outcome, Means}
 use Rattle.handlebars_semantics.specs.State.{Setting, first_state}
 use Rattle.handlebars_html.specs.Html.{beginning}
-use Rattle.handlebars_html.specs.Rule.{Table, Leads}
+use Rattle.handlebars_html.specs.Rule.{as_first, Table, Leads}
 use Rattle.handlebars_html.specs.Safety.{html_rule, StandSafely}
 
 -- a registry as it begins, with no templates, over this data
@@ -36,7 +36,7 @@ first_setting d = record {
 
 -- the table in which no name is known
 abbrev pub empty_table : Table html_rule
-empty_table = record { is_user = λ n. false; enters = λ n h. ⊥; leaves = λ n h g. ⊥ }
+empty_table = record { registered = λ n. as_first; enters = λ n h. ⊥; leaves = λ n h g. ⊥ }
 
 -- a page of these elements
 abbrev pub page : List Element → Tree

@@ -14,7 +14,7 @@ use Rattle.handlebars_html.specs.Safety.{html_rule, StandSafely}
 use Rattle.handlebars_html.specs.Rows.{Row, entering, has_row, with_rows, table_of}
 use Rattle.handlebars_html.specs.Faults.{Fault}
 use Rattle.handlebars_html.specs.Check.{Findings, no_findings, both_findings, found_rows, found_faults, each_once, ends_in, findings_of_entered, tree_ends}
-use Rattle.handlebars_html.specs.Registry.{UserDefined, is_user_in, Lists, faults_of_registry}
+use Rattle.handlebars_html.specs.Registry.{UserDefined, registered_in, Lists, faults_of_registry}
 
 -- What is checked, as pages: this source; or each template, which may be rendered by its name.
 pub data Pages : Type 0 where
@@ -26,14 +26,14 @@ pub data Pages : Type 0 where
 module _ (u : UserDefined) (rows : List Row) where
   -- A source is read from the beginning of a document. A template that is rendered by its name is included there.
   abbrev pub pages_findings : List (Text × Tree) → Pages → Findings
-  pages_findings templates (source t) = (tree_ends (is_user_in u) rows None t (beginning ∷ [])).findings
+  pages_findings templates (source t) = (tree_ends (registered_in u) rows None t (beginning ∷ [])).findings
   pages_findings templates all_templates = found_rows (map (λ x. entering x.0 beginning) templates)
 
   -- A template is read from each state in which its name is included.
   abbrev pub template_findings : Text × Tree → Findings
   template_findings x =
       findings_of_entered rows
-      (λ n h. if bytes_eq n x.0 then tree_ends (is_user_in u) rows (Some x.0) x.1 (h ∷ []) else ends_in [])
+      (λ n h. if bytes_eq n x.0 then tree_ends (registered_in u) rows (Some x.0) x.1 (h ∷ []) else ends_in [])
 
   -- all templates, one after another
   abbrev pub templates_findings : List (Text × Tree) → Findings
@@ -75,7 +75,7 @@ module _ (u : UserDefined) (templates : List (Text × Tree)) (pages : Pages) whe
   abbrev pub faults_after : ℕ → List Fault
   faults_after n = faults_by (searched n)
 
-  -- Whatever rows are accepted, these are among them.
+  -- Whatever rows are accepted, these are among them. Where none are, that says nothing.
   abbrev pub AreNeeded : List Row → Type 0
   AreNeeded rows = (others : List Row) → accepts others ≡ true → list_all (has_row others) rows ≡ true
 
@@ -123,7 +123,7 @@ IsRightToAccept p =
     (u : UserDefined) (templates : List (Text × Tree)) (pages : Pages) (rows : List Row)
     → AreAll p.parts.template templates
     → accepts u templates pages rows ≡ true
-    → PagesLead (table_of (is_user_in u) rows) templates pages × IsClosed p html_rule (table_of (is_user_in u) rows)
+    → PagesLead (table_of (registered_in u) rows) templates pages × IsClosed p html_rule (table_of (registered_in u) rows)
 
 -- a tree that is checked as a page
 abbrev pub IsPage : (Text → Option Tree) → Pages → Tree → Type 0
@@ -148,7 +148,7 @@ abbrev pub IsRightToRefuse : Setting → Type 1
 IsRightToRefuse p =
     (u : UserDefined) → faults_of_registry u ≡ [] → (templates : List (Text × Tree))
     → AreRegistered p.parts.template templates
-    → (table : Table html_rule) → table.is_user ≡ is_user_in u → IsClosed p html_rule table
+    → (table : Table html_rule) → table.registered ≡ registered_in u → IsClosed p html_rule table
     → (pages : Pages) → PagesLead table templates pages → (n : ℕ) → faults_after u templates pages n ≡ []
 
 -- If pages are accepted, by any rows, then no rows that are needed show a fault, and so no number of rounds does.

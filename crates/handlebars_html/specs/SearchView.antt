@@ -23,6 +23,7 @@ use Rattle.handlebars_html.specs.declared.user.OtherKind.{OtherKind}
 use Rattle.handlebars_html.specs.declared.user.OtherKind.TheVariants as kind
 
 abbrev pub kind_of : OtherKind → registry.OtherKind
+kind_of kind.GivesUrls = registry.gives_urls
 kind_of kind.GivesValues = registry.gives_values
 kind_of kind.MayHaveSteps = registry.may_have_steps
 kind_of kind.Misplaced = registry.misplaced
@@ -62,12 +63,12 @@ module _ (c : Checked) where
   -- a template, from the state in which it is included
   abbrev pub template_at : List Row → NamedTemplate → Html → Ends
   template_at rows t h =
-      tree_ends (registry.is_user_in user_at) rows (Some t.name.now) (tree_view t.template.now) (h ∷ [])
+      tree_ends (registry.registered_in user_at) rows (Some t.name.now) (tree_view t.template.now) (h ∷ [])
 
   -- a template, where something is included by a name in a state
   abbrev pub included_at : List Row → Text × Tree → Text → Html → Ends
   included_at rows x n h =
-      if bytes_eq n x.0 then tree_ends (registry.is_user_in user_at) rows (Some x.0) x.1 (h ∷ []) else ends_in []
+      if bytes_eq n x.0 then tree_ends (registry.registered_in user_at) rows (Some x.0) x.1 (h ∷ []) else ends_in []
 
   abbrev pub round_at : List Row → Findings
   round_at rows = search.round user_at rows templates_at pages_at

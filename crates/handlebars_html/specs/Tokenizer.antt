@@ -3,8 +3,8 @@
 -- distinguishes is ASCII.
 use Rattle.std.specs.Prelude.{ℕ, Bool, true, false, ◌||◌, ◌==◌, if◌then◌else◌, [], ◌∷◌, ◌++◌, Option, None, Some, codes}
 use Rattle.handlebars_base.specs.Bytes.{Text, double_quote, single_quote, hyphen, slash, less_than_sign, equals_sign, greater_than_sign, left_bracket}
-use Rattle.handlebars_html.specs.Ascii.{exclamation_mark, question_mark, is_html_white, lower, is_letter}
-use Rattle.handlebars_html.specs.Addresses.{Value, step_value, is_safe_value}
+use Rattle.handlebars_html.specs.Ascii.{exclamation_mark, question_mark, is_html_white, lower, is_letter, is_blank_or_control, begins_query}
+use Rattle.handlebars_html.specs.Addresses.{Value, forbidden, step_value, is_safe_value, begins_address}
 use Rattle.handlebars_html.specs.Tags.{Tag, tag_of, beside, is_late, first_value}
 
 pub data Tokenizer : Type 0 where
@@ -27,6 +27,9 @@ pub data Tokenizer : Type 0 where
   before_value : Tag → Value → Tokenizer
   -- 13.2.5.36 Attribute value (double-quoted) state, 13.2.5.37 Attribute value (single-quoted) state
   quoted : Bool → Tag → Value → Tokenizer
+  -- The same two, after an address that was written as a value: the template ends it, or goes on with a path, a query or a fragment.
+  -- Any other byte could make a scheme of it. A tokenizer that reads from the beginning isn't in it.
+  in_url : Bool → Tag → Tokenizer
   -- 13.2.5.38 Attribute value (unquoted) state
   unquoted : Tag → Tokenizer
   -- 13.2.5.42 Markup declaration open state, after `<!` and after `<!-`
@@ -68,6 +71,8 @@ pub data Tokenizer : Type 0 where
   text_end : Tokenizer
   -- An attribute changed what one before it means, in which data may stand. No text of a template may lead here.
   late : Tokenizer
+  -- A text would make a scheme of an address that was written as a value. No text of a template may lead here.
+  misled : Tokenizer
   -- Nothing more is said.
   stuck : Tokenizer
 
@@ -147,6 +152,10 @@ next (before_value tag v) b =
     if b == single_quote then quoted false tag v else unquoted tag))
 next (quoted double tag v) b =
     if b == quote_of double then before_attribute tag else quoted double tag (step_value v b)
+next (in_url double tag) b =
+    if b == quote_of double then before_attribute tag else (
+    if is_blank_or_control b then in_url double tag else (
+    if (b == slash) || begins_query b then quoted double tag forbidden else misled))
 next (unquoted tag) b = if is_html_white b then before_attribute tag else unquoted tag
 next declaration b = if b == left_bracket then stuck else by_dash b declaration_dash in_data bogus
 next declaration_dash b = by_dash b comment_start in_data bogus
@@ -172,6 +181,7 @@ next script_tag_open b =
 next (script_end_name rest) b = step_script_end rest b
 next text_end b = if is_html_white b then text_end else (if b == greater_than_sign then in_data else stuck)
 next late b = late
+next misled b = misled
 next stuck b = stuck
 
 -- ---- data
@@ -190,6 +200,7 @@ is_comment t = false
 
 abbrev pub is_refused : Tokenizer → Bool
 is_refused late = true
+is_refused misled = true
 is_refused t = false
 
 -- Data may stand in the text of an element, in a comment, and within the quotes of an attribute that may hold it.
@@ -198,3 +209,13 @@ is_safe_tokenizer in_data = true
 is_safe_tokenizer (in_text safe n) = safe
 is_safe_tokenizer (quoted double tag v) = is_safe_value v
 is_safe_tokenizer t = is_comment t
+
+-- the beginning of an address that is followed, within quotes
+abbrev pub begins_url : Tokenizer → Bool
+begins_url (quoted double tag v) = begins_address v
+begins_url t = false
+
+-- after a whole address there
+abbrev pub after_address : Tokenizer → Tokenizer
+after_address (quoted double tag v) = in_url double tag
+after_address t = t

@@ -1,24 +1,25 @@
 -- Settings of which the laws of rules speak: a registry with the helpers and the decorators that every registry begins with,
 -- and with user-defined helpers that give values.
-use Rattle.std.specs.Prelude.{◌≡◌, Bool, true, false, Some}
+use Rattle.std.specs.Prelude.{◌≡◌, Bool, Some}
 use Rattle.handlebars_base.specs.Bytes.{Text}
 use Rattle.handlebars_template.specs.Tree.{Tree}
 use Rattle.handlebars_helpers.specs.Callee.{user, first_callee}
 use Rattle.handlebars_helpers.specs.Decoration.{built_in_decorator}
+use Rattle.handlebars_helpers.specs.SafeUrl.{GivesUrls}
 use Rattle.handlebars_helpers.specs.UserHelper.{GivesValues}
 use Rattle.handlebars_semantics.specs.State.{Setting, hook}
-use Rattle.handlebars_html.specs.Rule.{Rule, Table, Leads}
+use Rattle.handlebars_html.specs.Rule.{Rule, Registered, as_first, user_values, user_urls, Table, Leads}
 
--- what is registered under a name: what every registry begins with, or a user-defined helper that gives values
-abbrev pub HelperIs : Setting → Bool → Text → Type 0
-HelperIs p false n = p.parts.helper n ≡ first_callee n
-HelperIs p true n = (k : Text) × (p.parts.helper n ≡ Some (user k)) × GivesValues (p.parts.user k)
+-- This is registered under a name.
+abbrev pub HelperIs : Setting → Registered → Text → Type 0
+HelperIs p as_first n = p.parts.helper n ≡ first_callee n
+HelperIs p user_values n = (k : Text) × (p.parts.helper n ≡ Some (user k)) × GivesValues (p.parts.user k)
+HelperIs p user_urls n = (k : Text) × (p.parts.helper n ≡ Some (user k)) × GivesUrls (p.parts.user k)
 
--- The user-defined helpers are those under these names, of which none is the name of a hook. No user-defined decorator is
--- registered.
-pub record IsUsual (p : Setting) (is_user : Text → Bool) : Type 0 where
-  pub helpers : (n : Text) → HelperIs p (is_user n) n
-  pub hooks : (block : Bool) → is_user (hook block) ≡ false
+-- These are the helpers. None is user-defined under the name of a hook. No user-defined decorator is registered.
+pub record IsUsual (p : Setting) (registered : Text → Registered) : Type 0 where
+  pub helpers : (n : Text) → HelperIs p (registered n) n
+  pub hooks : (block : Bool) → registered (hook block) ≡ as_first
   pub decorators : (n : Text) → p.parts.decorator n ≡ built_in_decorator n
 
 -- Each registered template leads as the table has it.

@@ -164,3 +164,13 @@ pub fn is_safe_value(value: &Value) -> bool
         Value::LoadedHost => false,
     }
 }
+
+/// Returns whether the value is at the beginning of an address that is followed.
+pub fn begins_address(value: &Value) -> bool
+    ensures { result ≡ addresses.begins_address (value_of value.now) }
+{
+    match value {
+        Value::Followed(text) => text.is_empty(),
+        _ => false,
+    }
+}

@@ -69,6 +69,7 @@ fn copy_tokenizer(state: &Tokenizer) -> Result<Tokenizer, AllocError>
         Tokenizer::Quoted(double, tag, value) => {
             Tokenizer::Quoted(*double, copy_tag(tag)?, copy_value(value)?)
         }
+        Tokenizer::InUrl(double, tag) => Tokenizer::InUrl(*double, copy_tag(tag)?),
         Tokenizer::Unquoted(tag) => Tokenizer::Unquoted(copy_tag(tag)?),
         Tokenizer::InText(safe, name) => Tokenizer::InText(*safe, name.clone()?),
         Tokenizer::TextTagOpen(safe, name) => Tokenizer::TextTagOpen(*safe, name.clone()?),

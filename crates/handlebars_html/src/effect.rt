@@ -1,22 +1,20 @@
 //! What a block does, by its name.
 
-ghost use Rattle.std.specs.List.{list_any};
 ghost use Rattle.std.specs.Prelude.{◌≡◌, IfOk, map, option_map, string_bytes};
-ghost use Rattle.handlebars_base.specs.Bytes.{Text};
 ghost use Rattle.std.specs.Map.{lookup};
 ghost use Rattle.std.specs.Str.{bytes_eq};
 ghost use Rattle.handlebars_helpers.specs.Choice as choice;
 ghost use Rattle.handlebars_helpers.specs.View.{built_in_kind};
-ghost use Rattle.handlebars_template.specs.TreeView.{param_view};
-ghost use Rattle.handlebars_html.specs.EffectView.{effect_view};
-ghost use Rattle.handlebars_html.specs.Registry.{OtherKind, is_user_in};
+ghost use Rattle.handlebars_template.specs.TreeView.{call_view, param_view};
+ghost use Rattle.handlebars_html.specs.EffectView.{effect_view, registered_view};
+ghost use Rattle.handlebars_html.specs.Registry as registry;
 ghost use Rattle.handlebars_html.specs.Rule as rule;
-ghost use Rattle.handlebars_html.specs.SearchView.{helper_of, user_defined_of};
+ghost use Rattle.handlebars_html.specs.SearchView.{helper_of, kind_of, user_defined_of};
 
-use crate::user::{OtherHelper, UserDefined};
+use crate::user::{OtherHelper, OtherKind, UserDefined};
 use handlebars_base::json::value::JsonRender;
 use handlebars_helpers::built_in::{BuiltIn, table};
-use handlebars_template::template::Parameter;
+use handlebars_template::template::{HelperTemplate, Parameter};
 use std::alloc::{AllocError, Global};
 
 /// What a block does.
@@ -72,12 +70,38 @@ fn effect_of(kind: BuiltIn) -> Effect
     }
 }
 
-fn is_user(helpers: &[OtherHelper], name: &str) -> bool
-    ensures { result ≡ list_any (λ (x : Text × OtherKind). bytes_eq x.0 name.now) (map helper_of helpers.now) }
+/// What is registered under a name.
+#[derive(Clone, Copy, Debug)]
+pub enum Registered {
+    /// What every registry begins with.
+    AsFirst,
+    /// A user-defined helper that gives values.
+    UserValues,
+    /// A user-defined helper each value of which is written as an address that runs no script.
+    UserUrls,
+}
+
+fn registered_as(kind: OtherKind) -> Registered
+    ensures { registered_view result ≡ registry.registered_as (kind_of kind) }
+{
+    match kind {
+        OtherKind::GivesUrls => Registered::UserUrls,
+        OtherKind::GivesValues => Registered::UserValues,
+        OtherKind::MayHaveSteps => Registered::UserValues,
+        OtherKind::Misplaced => Registered::UserValues,
+    }
+}
+
+fn registered_among(helpers: &[OtherHelper], name: &str) -> Registered
+    ensures { registered_view result ≡ registry.registered_among (map helper_of helpers.now) name.now }
 {
     match helpers.split_first() {
-        None => false,
-        Some((first, rest)) => first.name.as_str() == name || is_user(rest, name),
+        None => Registered::AsFirst,
+        Some((first, rest)) => if first.name.as_str() == name {
+            registered_as(first.kind)
+        } else {
+            registered_among(rest, name)
+        },
     }
 }
 
@@ -104,14 +128,52 @@ fn kind_in(rows: &[(&str, BuiltIn)], name: &str) -> Option<BuiltIn>
 
 /// Returns what a block of this name does.
 pub fn effect_named(user: &UserDefined, name: &str) -> Effect
-    ensures { effect_view result ≡ rule.effect_named (is_user_in (user_defined_of user.now)) name.now }
+    ensures { effect_view result ≡ rule.effect_named (registry.registered_in (user_defined_of user.now)) name.now }
 {
-    if is_user(&user.helpers, name) {
-        return Effect::Value;
+    match registered_among(&user.helpers, name) {
+        Registered::AsFirst => first_effect(name),
+        Registered::UserValues => Effect::Value,
+        Registered::UserUrls => Effect::Value,
     }
+}
+
+fn first_effect(name: &str) -> Effect
+    ensures { effect_view result ≡ rule.effect_as rule.as_first name.now }
+{
     match built_in(name) {
         Some(kind) => effect_of(kind),
         None => Effect::Iterations,
+    }
+}
+
+fn are_urls(registered: Registered) -> bool
+    ensures { result ≡ rule.are_urls (registered_view registered) }
+{
+    match registered {
+        Registered::AsFirst => false,
+        Registered::UserValues => false,
+        Registered::UserUrls => true,
+    }
+}
+
+/// Returns whether an expression calls a helper of addresses, by a name that is written, with arguments.
+///
+/// # Errors
+///
+/// Fails if memory runs out.
+pub fn writes_url(
+    call: &HelperTemplate,
+    alloc: Global,
+    user: &UserDefined,
+) -> Result<bool, AllocError>
+    ensures { IfOk result (λ b. b ≡ rule.writes_url (registry.registered_in (user_defined_of user.now)) (call_view call.now)) }
+{
+    if call.is_value() {
+        return Ok(false);
+    }
+    match written_name(&call.name, alloc)? {
+        Some(name) => Ok(are_urls(registered_among(&user.helpers, name.as_str()))),
+        None => Ok(false),
     }
 }
 
@@ -126,7 +188,7 @@ pub fn block_effect(
     user: &UserDefined,
 ) -> Result<Option<Effect>, AllocError>
     ensures { IfOk result (λ e. option_map effect_view e
-        ≡ option_map (rule.effect_named (is_user_in (user_defined_of user.now))) (rule.written_name (param_view name.now))) }
+        ≡ option_map (rule.effect_named (registry.registered_in (user_defined_of user.now))) (rule.written_name (param_view name.now))) }
 {
     match written_name(name, alloc)? {
         Some(name) => Ok(Some(effect_named(user, name.as_str()))),

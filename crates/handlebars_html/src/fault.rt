@@ -21,6 +21,8 @@ pub enum HtmlFaultReason {
     ChangedText(Html),
     /// A text changes what an attribute before it means, in which data may stand.
     LateAttribute,
+    /// A text would make a scheme of an address that was written as a value.
+    ChangedAddress,
     /// Iterations begin in the first state, and one of them ends in the second.
     ChangedByIteration(Html, Html),
     /// A block that may be captured ends in this state.
@@ -69,6 +71,7 @@ fn is_same_why(x: &HtmlFaultReason, y: &HtmlFaultReason) -> bool
         (HtmlFaultReason::ChangedByBlock(h), HtmlFaultReason::ChangedByBlock(g)) => is_same(h, g),
         (HtmlFaultReason::CapturedTextIn(h), HtmlFaultReason::CapturedTextIn(g)) => is_same(h, g),
         (HtmlFaultReason::LateAttribute, HtmlFaultReason::LateAttribute) => true,
+        (HtmlFaultReason::ChangedAddress, HtmlFaultReason::ChangedAddress) => true,
         (HtmlFaultReason::MadeInclusion, HtmlFaultReason::MadeInclusion) => true,
         (HtmlFaultReason::MadeBlock, HtmlFaultReason::MadeBlock) => true,
         (HtmlFaultReason::OtherIndent, HtmlFaultReason::OtherIndent) => true,
@@ -119,14 +122,12 @@ fn is_same_fault(x: &HtmlFault, y: &HtmlFault) -> bool
 fn has_fault(faults: &[HtmlFault], fault: &HtmlFault) -> bool
     ensures { result ≡ definitions.has_fault (map fault_of faults.now) (fault_of fault.now) }
 {
-    match faults.split_first() {
-        None => false,
-        Some((first, rest)) => if is_same_fault(first, fault) {
-            true
-        } else {
-            has_fault(rest, fault)
-        },
+    'faults: for other in faults {
+        if is_same_fault(other, fault) {
+            return true;
+        }
     }
+    false
 }
 
 /// Adds a fault at the end, unless it is among them.

@@ -10,7 +10,7 @@ ghost use Rattle.handlebars_html.specs.RowsView.{fault_of, why_of};
 
 use crate::copies::copy_html;
 use crate::fault::{HtmlFault, HtmlFaultReason, add_fault};
-use crate::html::{Html, is_safe};
+use crate::html::{Html, is_safe, may_hold_url};
 use crate::plain::Plain;
 use crate::rows::Row;
 use crate::stop::Stop;
@@ -169,6 +169,40 @@ pub fn check_values(
 {
     'states: for state in states {
         check_value(alloc, location, state, found)?;
+    }
+    Ok(())
+}
+
+fn check_url(
+    alloc: Global,
+    location: Location<'_>,
+    state: &Html,
+    found: &mut Found,
+) -> Result<(), AllocError>
+    ensures { OnOk result (AddsFaults found.old found.new location.entry (check.whys_of_url (html_of state.now))) }
+{
+    if !may_hold_url(state) {
+        push_reason(alloc, location, reason_of_unsafe(state)?, found)?;
+    }
+    Ok(())
+}
+
+/// Adds a fault for each of these states in which an address that runs no script may not stand.
+///
+/// # Errors
+///
+/// Fails if memory runs out.
+pub fn check_urls(
+    alloc: Global,
+    location: Location<'_>,
+    states: &[Html],
+    found: &mut Found,
+) -> Result<(), AllocError>
+    ensures { OnOk result (AddsFaults found.old found.new location.entry
+        (flat_map check.whys_of_url (map html_of states.now))) }
+{
+    'states: for state in states {
+        check_url(alloc, location, state, found)?;
     }
     Ok(())
 }

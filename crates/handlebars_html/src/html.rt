@@ -9,7 +9,9 @@ ghost use Rattle.handlebars_html.specs.HtmlView.{content_view, context_of, forei
 
 use crate::plain::Plain;
 use crate::tag::{Content, tag_of};
-use crate::tokenizer::{Tokenizer, is_comment, is_safe_tokenizer, next, script_name};
+use crate::tokenizer::{
+    Tokenizer, after_address, begins_url, is_comment, is_safe_tokenizer, next, script_name,
+};
 use std::alloc::{AllocError, Global};
 
 /// Where a script may be read as markup.
@@ -184,6 +186,9 @@ fn end_tag(state: Html, alloc: Global) -> Result<Html, AllocError>
         Tokenizer::Quoted(double, tag, value) => {
             after_greater(Tokenizer::Quoted(double, tag, value), context, alloc)
         }
+        Tokenizer::InUrl(double, tag) => {
+            after_greater(Tokenizer::InUrl(double, tag), context, alloc)
+        }
         Tokenizer::InText(safe, name) => {
             after_greater(Tokenizer::InText(safe, name), context, alloc)
         }
@@ -223,6 +228,7 @@ fn begins_tag_plain(state: Plain) -> bool
         Plain::Data => true,
         Plain::TagOpen => true,
         Plain::Late => true,
+        Plain::Misled => true,
         _ => false,
     }
 }
@@ -289,5 +295,27 @@ pub fn after_data(state: Html) -> Html
         plain(Plain::CommentUnclear, state.context)
     } else {
         state
+    }
+}
+
+/// Returns whether an address that runs no script may stand there.
+pub fn may_hold_url(state: &Html) -> bool
+    ensures { result ≡ html.may_hold_url (html_of state.now) }
+{
+    is_safe(state) || begins_url(&state.tokenizer)
+}
+
+/// Returns what is known of the state after such an address.
+pub fn after_url(state: Html) -> Html
+    ensures { html_of result ≡ html.after_url (html_of state) }
+{
+    if begins_url(&state.tokenizer) {
+        let context = state.context;
+        Html {
+            tokenizer: after_address(state.tokenizer),
+            context,
+        }
+    } else {
+        after_data(state)
     }
 }

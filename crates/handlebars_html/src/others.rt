@@ -2,12 +2,13 @@
 
 ghost use Rattle.std.specs.BTreeSet.{contains_text};
 ghost use Rattle.std.specs.Bool.{OnFalse, OnTrue};
-ghost use Rattle.std.specs.Prelude.{◌≡◌, ◌≢◌, ◌||◌, IfOk, OnOk, bytes_eq, codes, cond, is_some, map, option_map, string_bytes, true};
+ghost use Rattle.std.specs.Prelude.{◌≡◌, ◌≢◌, ◌||◌, IfOk, OnOk, Some, bytes_eq, codes, cond, is_some, map, option_map, string_bytes, true};
 ghost use Rattle.handlebars_base.specs.Bytes.{Text};
+ghost use Rattle.handlebars_helpers.specs.Callee.{user};
 ghost use Rattle.handlebars_helpers.specs.Choice as choice;
 ghost use Rattle.handlebars_helpers.specs.Decoration.{built_in_decorator};
 ghost use Rattle.handlebars_helpers.specs.View.{built_in_kind};
-ghost use Rattle.handlebars_html.specs.Registry.{AddsDecorator, AddsHelper, IsOtherOrFirst, ListsDecorators, ListsHelpers, ListsOf};
+ghost use Rattle.handlebars_html.specs.Registry.{AddsDecorator, AddsHelper, IsOther, IsOtherOrFirst, ListsDecorators, ListsHelpers, ListsOf};
 ghost use Rattle.handlebars_html.specs.SearchView.{helper_of, kind_of, user_defined_of};
 
 use crate::effect::built_in;
@@ -28,16 +29,26 @@ fn is_same_kind(x: BuiltIn, y: BuiltIn) -> bool
     x == y
 }
 
+// What is known of the user-defined helper under this name.
+fn user_kind<E: UserParts>(entries: &E, name: &str) -> OtherKind
+    ensures { (E.registered entries.now).helper name.now ≡ Some (user name.now)
+        → IsOther (E.registered entries.now).helper (E.user entries.now).helper name.now (kind_of result) }
+{
+    if entries.gives_urls(name) {
+        OtherKind::GivesUrls
+    } else if entries.gives_values(name) {
+        OtherKind::GivesValues
+    } else {
+        OtherKind::MayHaveSteps
+    }
+}
+
 // What is registered under this name, if it isn't what every registry begins with.
 fn other_kind<E: UserParts>(entries: &E, name: &str) -> Option<OtherKind>
     ensures { IsOtherOrFirst (E.registered entries.now).helper (E.user entries.now).helper name.now (option_map kind_of result) }
 {
     match (entries.helper(name), built_in(name)) {
-        (Some(Callee::User), _) => if entries.gives_values(name) {
-            Some(OtherKind::GivesValues)
-        } else {
-            Some(OtherKind::MayHaveSteps)
-        },
+        (Some(Callee::User), _) => Some(user_kind(entries, name)),
         (Some(Callee::Built(kind)), Some(first)) => if is_same_kind(kind, first) {
             None
         } else {

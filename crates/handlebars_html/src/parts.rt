@@ -58,6 +58,7 @@ fn check_helper(helper: &OtherHelper, faults: &mut Vec<HtmlFault>) -> Result<(),
     ensures { OnOk result (AppendsFaults faults.old.items faults.new.items (registry.whys_of_helper (helper_of helper.now))) }
 {
     match helper.kind {
+        OtherKind::GivesUrls => check_hook(&helper.name, faults),
         OtherKind::GivesValues => check_hook(&helper.name, faults),
         OtherKind::MayHaveSteps => {
             let reason = HtmlFaultReason::HelperWithSteps(helper.name.clone()?);

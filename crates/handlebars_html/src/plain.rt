@@ -34,6 +34,8 @@ pub enum Plain {
     TextEnd,
     /// An attribute changed what one before it means.
     Late,
+    /// A text could make a scheme of an address that was written as a value.
+    Misled,
     /// Nothing more is said.
     Stuck,
 }
@@ -162,6 +164,7 @@ pub fn is_plain_comment(state: Plain) -> bool
         Plain::ScriptTagOpen => false,
         Plain::TextEnd => false,
         Plain::Late => false,
+        Plain::Misled => false,
         Plain::Stuck => false,
     }
 }
@@ -182,6 +185,7 @@ pub fn is_plain_refused(state: Plain) -> bool
 {
     match state {
         Plain::Late => true,
+        Plain::Misled => true,
         _ => false,
     }
 }

@@ -32,28 +32,6 @@ fn is_at(name: &str, state: &Html, other_name: &str, other: &Html) -> bool
     name == other_name && is_same(state, other)
 }
 
-fn is_left(rows: &[Row], name: &str, state: &Html, end: &Html) -> bool
-    ensures { result ≡ table.is_among (table.leaving_states (map row_of rows.now) name.now (html_of state.now)) (html_of end.now) }
-{
-    match rows.split_first() {
-        None => false,
-        Some((first, rest)) => match first {
-            Row::Entering(_, _) => is_left(rest, name, state, end),
-            Row::Leaving(other, at, there) => {
-                if is_at(other.as_str(), at, name, state) {
-                    if is_same(there, end) {
-                        true
-                    } else {
-                        is_left(rest, name, state, end)
-                    }
-                } else {
-                    is_left(rest, name, state, end)
-                }
-            }
-        },
-    }
-}
-
 impl Table {
     /// Returns a table without rows.
     pub fn new(alloc: Global) -> Table
@@ -94,7 +72,14 @@ impl Table {
     pub fn has_leaving(&self, name: &str, state: &Html, end: &Html) -> bool
         ensures { result ≡ table.is_among (table.leaving_states (rows_of self.now) name.now (html_of state.now)) (html_of end.now) }
     {
-        is_left(&self.rows, name, state, end)
+        'rows: for row in &self.rows {
+            if let Row::Leaving(other, at, there) = row {
+                if is_at(other.as_str(), at, name, state) && is_same(there, end) {
+                    return true;
+                }
+            }
+        }
+        false
     }
 
     /// Adds the states in which what is included by this name in this state may end, each once.

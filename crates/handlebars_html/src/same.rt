@@ -94,6 +94,7 @@ fn is_same_plain(x: Plain, y: Plain) -> bool
         Plain::ScriptTagOpen => matches!(y, Plain::ScriptTagOpen),
         Plain::TextEnd => matches!(y, Plain::TextEnd),
         Plain::Late => matches!(y, Plain::Late),
+        Plain::Misled => matches!(y, Plain::Misled),
         Plain::Stuck => matches!(y, Plain::Stuck),
     }
 }
@@ -133,6 +134,10 @@ fn is_same_tokenizer(x: &Tokenizer, y: &Tokenizer) -> bool
         Tokenizer::Quoted(double, tag, value) => match y {
             Tokenizer::Quoted(two, other, held) => is_same_bool(*double, *two)
                 && (is_same_tag(tag, other) && is_same_value(value, held)),
+            _ => false,
+        },
+        Tokenizer::InUrl(double, tag) => match y {
+            Tokenizer::InUrl(two, other) => is_same_bool(*double, *two) && is_same_tag(tag, other),
             _ => false,
         },
         Tokenizer::Unquoted(tag) => match y {

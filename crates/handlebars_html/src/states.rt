@@ -6,7 +6,7 @@ ghost use Rattle.handlebars_html.specs.HtmlView.{html_of};
 ghost use Rattle.handlebars_html.specs.Rows as rows;
 
 use crate::copies::copy_html;
-use crate::html::{Html, after, after_data, beginning};
+use crate::html::{Html, after, after_data, after_url, beginning};
 use crate::same::is_same;
 use std::alloc::{AllocError, Global};
 
@@ -79,6 +79,21 @@ pub fn states_after_data(states: &[Html], alloc: Global) -> Result<Vec<Html>, Al
     let mut ends = Vec::new(alloc);
     'states: for state in states {
         add_state(&mut ends, after_data(copy_html(state)?))?;
+    }
+    Ok(ends)
+}
+
+/// Returns what is known of the states after an address that runs no script, each once.
+///
+/// # Errors
+///
+/// Fails if memory runs out.
+pub fn states_after_url(states: &[Html], alloc: Global) -> Result<Vec<Html>, AllocError>
+    ensures { IfOk result (λ gs. map html_of gs.items ≡ rows.each_state html.after_url (map html_of states.now)) }
+{
+    let mut ends = Vec::new(alloc);
+    'states: for state in states {
+        add_state(&mut ends, after_url(copy_html(state)?))?;
     }
     Ok(ends)
 }

@@ -8,6 +8,7 @@ ghost use Rattle.handlebars_html.specs.FoundView.{AddsFaults, EndsWith};
 ghost use Rattle.handlebars_html.specs.Html as html;
 ghost use Rattle.handlebars_html.specs.HtmlView.{html_of, tokenizer_of};
 ghost use Rattle.handlebars_html.specs.Rows.{each_state, with_state};
+ghost use Rattle.handlebars_html.specs.RowsView.{why_of};
 ghost use Rattle.handlebars_html.specs.Same as same;
 ghost use Rattle.handlebars_html.specs.Tokenizer as tokenizer;
 
@@ -15,9 +16,10 @@ use crate::copies::copy_html;
 use crate::fault::HtmlFaultReason;
 use crate::found::{Found, Location, push_reason};
 use crate::html::{Html, after, step};
+use crate::plain::Plain;
 use crate::same::is_same;
 use crate::states::add_state;
-use crate::tokenizer::is_refused;
+use crate::tokenizer::{Tokenizer, is_refused};
 use std::alloc::{AllocError, Global};
 
 // Whether a text ends in this state also after a blank.
@@ -33,6 +35,16 @@ fn is_same_after_blank(
     let blank = step(copy_html(state)?, b' ', alloc)?;
     let other = after(blank, text, alloc)?;
     Ok(is_same(&other, end))
+}
+
+// Why no text may lead to this state.
+fn refusal(state: &Tokenizer) -> HtmlFaultReason
+    ensures { why_of result ≡ check.why_refused (tokenizer_of state.now) }
+{
+    match state {
+        Tokenizer::Plain(Plain::Misled) => HtmlFaultReason::ChangedAddress,
+        _ => HtmlFaultReason::LateAttribute,
+    }
 }
 
 // The state after a text, with what is wrong with the text in this state.
@@ -53,7 +65,7 @@ fn text_end(
         push_reason(alloc, location, reason, found)?;
     }
     if is_refused(&end.tokenizer) {
-        push_reason(alloc, location, HtmlFaultReason::LateAttribute, found)?;
+        push_reason(alloc, location, refusal(&end.tokenizer), found)?;
     }
     Ok(end)
 }

@@ -5,8 +5,8 @@ ghost use Rattle.handlebars_html.specs.Ascii as ascii;
 ghost use Rattle.handlebars_html.specs.Tokenizer as tokenizer;
 ghost use Rattle.handlebars_html.specs.HtmlView.{plain_of, tag_view, tokenizer_of, value_of};
 
-use crate::address::{Value, is_safe_value, step_value};
-use crate::ascii::{is_html_white, is_letter, lower};
+use crate::address::{Value, begins_address, is_safe_value, step_value};
+use crate::ascii::{begins_query, is_blank_or_control, is_html_white, is_letter, lower};
 use crate::plain::{
     Plain, by_dash, is_plain_comment, is_plain_refused, is_safe_plain, next_comment_end,
     next_declaration, next_script_end, next_text_end, next_unclear, next_unclear_dash, step_script,
@@ -26,6 +26,8 @@ pub enum Tokenizer {
     BeforeValue(Tag, Value),
     /// In a value in double quotes or in single ones.
     Quoted(bool, Tag, Value),
+    /// In double quotes or in single ones, after an address that was written as a value.
+    InUrl(bool, Tag),
     Unquoted(Tag),
     /// In the text of the element of this name, in which data may stand or may not.
     InText(bool, Vec<u8>),
@@ -66,6 +68,7 @@ fn next_plain(state: Plain, byte: u8, alloc: Global) -> Result<Tokenizer, AllocE
         Plain::CommentUnclearDash => next_unclear_dash(byte),
         Plain::TextEnd => next_text_end(byte),
         Plain::Late => Plain::Late,
+        Plain::Misled => Plain::Misled,
         Plain::Stuck => Plain::Stuck,
     }))
 }
@@ -201,16 +204,35 @@ fn before_value(tag: Tag, value: Value, byte: u8) -> Tokenizer
     }
 }
 
+fn quote_of(double: bool) -> u8
+    ensures { result ≡ tokenizer.quote_of double }
+{
+    if double { b'"' } else { b'\'' }
+}
+
 fn quoted(double: bool, tag: Tag, value: Value, byte: u8) -> Result<Tokenizer, AllocError>
     ensures { IfOk result (λ t.
         tokenizer_of t ≡ tokenizer.next (tokenizer.quoted double (tag_view tag) (value_of value)) byte) }
 {
-    let quote = if double { b'"' } else { b'\'' };
-    if byte == quote {
+    if byte == quote_of(double) {
         return Ok(Tokenizer::BeforeAttribute(tag));
     }
     let value = step_value(value, byte)?;
     Ok(Tokenizer::Quoted(double, tag, value))
+}
+
+fn in_url(double: bool, tag: Tag, byte: u8) -> Tokenizer
+    ensures { tokenizer_of result ≡ tokenizer.next (tokenizer.in_url double (tag_view tag)) byte }
+{
+    if byte == quote_of(double) {
+        Tokenizer::BeforeAttribute(tag)
+    } else if is_blank_or_control(byte) {
+        Tokenizer::InUrl(double, tag)
+    } else if byte == b'/' || begins_query(byte) {
+        Tokenizer::Quoted(double, tag, Value::Forbidden)
+    } else {
+        Tokenizer::Plain(Plain::Misled)
+    }
 }
 
 fn unquoted(tag: Tag, byte: u8) -> Tokenizer
@@ -323,6 +345,7 @@ pub fn next(state: Tokenizer, byte: u8, alloc: Global) -> Result<Tokenizer, Allo
         Tokenizer::AfterAttribute(tag, name) => after_attribute(tag, name, byte, alloc),
         Tokenizer::BeforeValue(tag, value) => Ok(before_value(tag, value, byte)),
         Tokenizer::Quoted(double, tag, value) => quoted(double, tag, value, byte),
+        Tokenizer::InUrl(double, tag) => Ok(in_url(double, tag, byte)),
         Tokenizer::Unquoted(tag) => Ok(unquoted(tag, byte)),
         Tokenizer::InText(safe, name) => Ok(in_text(safe, name, byte)),
         Tokenizer::TextTagOpen(safe, name) => Ok(text_tag_open(safe, name, byte)),
@@ -360,5 +383,25 @@ pub fn is_safe_tokenizer(state: &Tokenizer) -> bool
         Tokenizer::InText(safe, _) => *safe,
         Tokenizer::Quoted(_, _, value) => is_safe_value(value),
         _ => false,
+    }
+}
+
+/// Returns whether an address begins there that is followed.
+pub fn begins_url(state: &Tokenizer) -> bool
+    ensures { result ≡ tokenizer.begins_url (tokenizer_of state.now) }
+{
+    match state {
+        Tokenizer::Quoted(_, _, value) => begins_address(value),
+        _ => false,
+    }
+}
+
+/// Returns the state after a whole address.
+pub fn after_address(state: Tokenizer) -> Tokenizer
+    ensures { tokenizer_of result ≡ tokenizer.after_address (tokenizer_of state) }
+{
+    match state {
+        Tokenizer::Quoted(double, tag, _) => Tokenizer::InUrl(double, tag),
+        other => other,
     }
 }

@@ -5,6 +5,8 @@ use handlebars_helpers::escape::Escaping;
 /// What is registered under the name of a helper, where it isn't what every registry begins with.
 #[derive(Clone, Copy, Debug, PartialEq, Eq)]
 pub enum OtherKind {
+    /// A user-defined helper that is known to give values alone, each of which is written as an address that runs no script.
+    GivesUrls,
     /// A user-defined helper that is known to give values alone, and no steps.
     GivesValues,
     /// Another user-defined helper.

@@ -7,16 +7,17 @@ ghost use Rattle.handlebars_template.specs.TreeView.{body_view, call_view};
 ghost use Rattle.handlebars_html.specs.Check as check;
 ghost use Rattle.handlebars_html.specs.Faults.{unescaped_value};
 ghost use Rattle.handlebars_html.specs.FoundView.{AddsFaults, EndsIn, EndsWith};
-ghost use Rattle.handlebars_html.specs.Html.{after_data};
+ghost use Rattle.handlebars_html.specs.Html.{after_data, after_url};
 ghost use Rattle.handlebars_html.specs.HtmlView.{html_of};
 ghost use Rattle.handlebars_html.specs.ReadingView.{expression_ends_at, rows_at};
 ghost use Rattle.handlebars_html.specs.Rows.{each_state};
 
+use crate::effect::writes_url;
 use crate::fault::HtmlFaultReason;
-use crate::found::{Found, Location, check_values, push_reason};
+use crate::found::{Found, Location, check_urls, check_values, push_reason};
 use crate::html::Html;
 use crate::reading::Reading;
-use crate::states::states_after_data;
+use crate::states::{states_after_data, states_after_url};
 use handlebars_template::template::{HelperTemplate, Template};
 use std::alloc::{AllocError, Global};
 
@@ -37,6 +38,26 @@ pub fn value_ends(
 {
     check_values(alloc, location, states, found)?;
     states_after_data(states, alloc)
+}
+
+/// Returns the states after an address that runs no script, each once, and adds a fault for each of these states in which it
+/// may not stand.
+///
+/// # Errors
+///
+/// Fails if memory runs out.
+pub fn url_ends(
+    alloc: Global,
+    location: Location<'_>,
+    states: &[Html],
+    found: &mut Found,
+) -> Result<Vec<Html>, AllocError>
+    ensures { IfOk result (λ gs. EndsWith found.old found.new gs.items
+        (each_state after_url (map html_of states.now)) location.entry
+        (flat_map check.whys_of_url (map html_of states.now))) }
+{
+    check_urls(alloc, location, states, found)?;
+    states_after_url(states, alloc)
 }
 
 /// Returns the states after a value that isn't escaped, each once, and adds a fault for it.
@@ -98,5 +119,9 @@ pub fn expression_ends(
         (expression_ends_at reading.entry (call_view call.now) (map html_of states.now))) }
 {
     check_bodies(call, reading.alloc, reading.location, found)?;
-    value_ends(reading.alloc, reading.location, states, found)
+    if writes_url(call, reading.alloc, reading.user)? {
+        url_ends(reading.alloc, reading.location, states, found)
+    } else {
+        value_ends(reading.alloc, reading.location, states, found)
+    }
 }

@@ -34,7 +34,8 @@ fn plain_words(state: Plain) -> &'static str {
         Plain::Script => "in the text of `script`",
         Plain::ScriptTagOpen => "in the text of `script`",
         Plain::TextEnd => "in an end tag",
-        Plain::Late => "after an attribute that changes what one before it means",
+        Plain::Late => "after `http-equiv` behind `content`",
+        Plain::Misled => "in an address that a value has written",
         Plain::Stuck => "where nothing more is known",
         _ => "in a comment",
     }
@@ -53,7 +54,7 @@ fn plain_advice(state: Plain) -> &'static str {
 fn value_words(value: &Value) -> &'static str {
     match value {
         Value::Harmless => "in an attribute in quotes",
-        Value::Forbidden => "in an attribute that may be code",
+        Value::Forbidden => "in an attribute or an address that may be code",
         Value::Followed(text) => if text.is_empty() {
             "at the beginning of an address"
         } else {
@@ -75,7 +76,11 @@ fn value_advice(value: &Value) -> &'static str {
         Value::Harmless => "",
         Value::Forbidden =>
             "write it in another attribute, as in `title` or one that begins with `data-`",
-        Value::Followed(_) => "begin the address in the template, as with `/` or `https://`",
+        Value::Followed(text) => if text.is_empty() {
+            "begin the address in the template, as with `/` or `https://`, or let the helper `SafeUrl` write it"
+        } else {
+            "begin the address in the template, as with `/` or `https://`"
+        },
         Value::Loaded(_) => "begin the address in the template, with its host",
         Value::LoadedSlash => "begin the address in the template, with its host",
         Value::LoadedAuthority => "write the host in the template, and a `/` after it",
@@ -92,6 +97,7 @@ fn words_of(tokenizer: &Tokenizer) -> &'static str {
         Tokenizer::AfterAttribute(_, _) => "where the name of an attribute begins",
         Tokenizer::BeforeValue(_, _) => "in an attribute without quotes",
         Tokenizer::Quoted(_, _, value) => value_words(value),
+        Tokenizer::InUrl(_, _) => "in an address that a value has written",
         Tokenizer::Unquoted(_) => "in an attribute without quotes",
         Tokenizer::InText(_, _) => "in the text of",
         Tokenizer::TextTagOpen(_, _) => "in the text of",
@@ -130,6 +136,7 @@ fn advice_at(state: &Html) -> &'static str {
             "write the name in the template, and data in quotes after `=`",
         Tokenizer::BeforeValue(_, _) => "write quotes around the value",
         Tokenizer::Quoted(_, _, value) => value_advice(value),
+        Tokenizer::InUrl(_, _) => "begin the address in the template, as with `/` or `https://`",
         Tokenizer::Unquoted(_) => "write quotes around the value",
         Tokenizer::InText(_, _) => "write it in the text of another element",
         Tokenizer::TextTagOpen(_, _) => "write it in the text of another element",
@@ -144,10 +151,13 @@ impl HtmlFaultReason {
     pub fn advice(&self) -> &'static str {
         match self {
             HtmlFaultReason::UnsafeValue(state) => advice_at(state),
-            HtmlFaultReason::UnreadValue => "write what comes before it in another way",
+            HtmlFaultReason::UnreadValue =>
+                "write it before that text, or that text without `<!` in a script and tags in `title`",
             HtmlFaultReason::UnescapedValue => "write two braces, not three or `&`",
-            HtmlFaultReason::ChangedText(_) => "begin the line elsewhere",
-            HtmlFaultReason::LateAttribute => "write that attribute first",
+            HtmlFaultReason::ChangedText(_) =>
+                "write the whole name or address in one text, not parts of it in blocks",
+            HtmlFaultReason::LateAttribute => "write `http-equiv` first, and no data in `content`",
+            HtmlFaultReason::ChangedAddress => "end the address, or go on with `/`, `?` or `#`",
             HtmlFaultReason::ChangedByIteration(_, _) =>
                 "close in the body what it opens, and open nothing that it leaves",
             HtmlFaultReason::ChangedByBlock(_) => "close in the block what it opens",
@@ -157,7 +167,7 @@ impl HtmlFaultReason {
             HtmlFaultReason::OtherIndent => "write blanks before the tag, or text on its line",
             HtmlFaultReason::ExpressionBodies => "",
             HtmlFaultReason::OtherEscape => "register the escape of html",
-            HtmlFaultReason::HelperWithSteps(_) => "register it as one that gives values alone",
+            HtmlFaultReason::HelperWithSteps(_) => "register it as `HelperEntry::Value`",
             HtmlFaultReason::MisplacedHelper(_) =>
                 "register the built-in helper under its own name",
             HtmlFaultReason::UserHook(_) => "register it under another name",
@@ -185,7 +195,10 @@ impl fmt::Display for HtmlFaultReason {
                 )
             }
             HtmlFaultReason::LateAttribute => f.write_str(
-                "an attribute changes what one before it means, which holds data",
+                "`http-equiv` stands after `content`, which may hold data",
+            ),
+            HtmlFaultReason::ChangedAddress => f.write_str(
+                "a text goes on with an address that a value has written, and may make a scheme of it",
             ),
             HtmlFaultReason::ChangedByIteration(start, end) => {
                 write!(
@@ -222,12 +235,12 @@ impl fmt::Display for HtmlFaultReason {
             ),
             HtmlFaultReason::MisplacedHelper(name) => write!(
                 f,
-                "not the built-in helper is registered under {name:?}"
+                "what is registered under {name:?} is not what a new registry has there"
             ),
             HtmlFaultReason::UserHook(name) => write!(f, "the hook {name:?} is user-defined"),
             HtmlFaultReason::UserDecorator(name) => write!(
                 f,
-                "not the built-in decorator is registered under {name:?}"
+                "what is registered under {name:?} is not what a new registry has there"
             ),
         }
     }

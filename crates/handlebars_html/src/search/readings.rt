@@ -6,7 +6,7 @@ ghost use Rattle.handlebars_html.specs.Check as check;
 ghost use Rattle.handlebars_html.specs.FoundView.{AddsFindings};
 ghost use Rattle.handlebars_html.specs.Html as html;
 ghost use Rattle.handlebars_html.specs.HtmlView.{html_of};
-ghost use Rattle.handlebars_html.specs.Registry.{is_user_in};
+ghost use Rattle.handlebars_html.specs.Registry.{registered_in};
 ghost use Rattle.handlebars_html.specs.Rows.{entering};
 ghost use Rattle.handlebars_html.specs.RowsView.{rows_of};
 ghost use Rattle.handlebars_html.specs.Search.{pages_findings};
@@ -63,7 +63,7 @@ fn read_source<'t>(
     found: &mut Found,
 ) -> Result<(), Stop>
     ensures { OnOk result (AddsFindings (rows_of table.now) found.old found.new
-        (check.tree_ends (is_user_in (user_at checked.entry)) (rows_of table.now) None (tree_view source.now)
+        (check.tree_ends (registered_in (user_at checked.entry)) (rows_of table.now) None (tree_view source.now)
         (html.beginning ∷ [])).findings) }
 {
     let location = Location {

@@ -14,7 +14,7 @@ use Rattle.handlebars_html.specs.EffectView.{effect_view}
 use Rattle.handlebars_html.specs.FoundView.{AddsFindings}
 use Rattle.handlebars_html.specs.Html as html
 use Rattle.handlebars_html.specs.HtmlView.{html_of}
-use Rattle.handlebars_html.specs.ReadingView.{is_user_at, rows_at, name_at, position_at, tree_ends_at, branch_ends_at, own_ends_at, inline_at, iteration_at}
+use Rattle.handlebars_html.specs.ReadingView.{registered_at, rows_at, name_at, position_at, tree_ends_at, branch_ends_at, own_ends_at, inline_at, iteration_at}
 use Rattle.handlebars_html.specs.Rows as rows
 use Rattle.handlebars_html.specs.Rows.{without_state}
 use Rattle.handlebars_html.specs.Rule.{written_name, inline_name}
@@ -30,7 +30,7 @@ bodies_ends-returns-in_ok-ends-in-OneBranch t c =
     let r = c.args.reading in
     let hs = map html_of c.args.states.now in
     IfOk-weaker c.inverse_ends.result _ _ (λ gs later.
-    branches-out (is_user_at r) (rows_at r) (name_at r) (position_at r) (call_bodies (call_view c.args.call.now))
+    branches-out (registered_at r) (rows_at r) (name_at r) (position_at r) (call_bodies (call_view c.args.call.now))
     (effect_view c.args.effect) hs c.args.found.now c.branch_ends.new.found c.inverse_ends.new.found
     c.in_ok-ends-in-OneBranch.ends.items gs.items (ap effect_view c.in-OneBranch.is)
     (ends-same (rows_at r) c.args.found.now c.branch_ends.new.found c.in_ok-ends-in-OneBranch.ends.items _ _
@@ -41,7 +41,7 @@ pub bodies_ends-returns-in_ok-ends-in-Iterations : goal.bodies_ends-returns-in_o
 bodies_ends-returns-in_ok-ends-in-Iterations t c =
     let r = c.args.reading in
     IfOk-weaker c.inverse_ends-in-Iterations.result _ _ (λ gs later.
-    iterations-out (is_user_at r) (rows_at r) (name_at r) (position_at r) (call_bodies (call_view c.args.call.now))
+    iterations-out (registered_at r) (rows_at r) (name_at r) (position_at r) (call_bodies (call_view c.args.call.now))
     (effect_view c.args.effect) (map html_of c.args.states.now) c.args.found.now c.iterate.new.found
     c.inverse_ends-in-Iterations.new.found c.in_ok-ends-in-Iterations.ends.items gs.items (ap effect_view c.in-Iterations.is)
     c.in_ok-iterate-in-Iterations.ensures c.in_ok-ends-in-Iterations.ensures later) c.inverse_ends-in-Iterations.ensures
@@ -71,7 +71,7 @@ decorator_ends-returns t c =
     let r = c.args.reading in
     let d = decorator_view c.args.tag.now in
     let now = record c.rows.found { has_inlines = true } in
-    decorator-out (is_user_at r) (rows_at r) (name_at r) d (map html_of c.args.states.now) c.args.found.now now
+    decorator-out (registered_at r) (rows_at r) (name_at r) d (map html_of c.args.states.now) c.args.found.now now
     c.in_ok-copy_states.field-0.items c.in_ok-copy_states.ensures
     (adds-same (rows_at r) c.args.found.now now _ _
     (ap (λ (zs : List rows.Row). check.findings_of_entered zs (inline_at r d)) c.rows-rows.ensures)
@@ -85,11 +85,11 @@ inclusion_ends-returns t c =
     let hs = map html_of c.args.states.now in
     let own = own_ends_at r (decorator_body d) in
     ends-same (rows_at r) c.args.found.now c.own_ends.new.found c.in_ok-all_ends.field-0.items _ _
-    (ap (λ (z : Option Text). check.inclusion_parts (is_user_at r) (rows_at r) (name_at r) (position_at r) z (decorator_marks d)
+    (ap (λ (z : Option Text). check.inclusion_parts (registered_at r) (rows_at r) (name_at r) (position_at r) z (decorator_marks d)
     hs (own (html.beginning ∷ [])) (own (without_state hs html.beginning)))
     (c.in_ok-name.ensures ∙ ap written_name (sym (decorator_name-out c.args.tag.now)))
-    ∙ inclusion-parts (is_user_at r) (rows_at r) (name_at r) (position_at r) d hs)
-    (inclusion-out (is_user_at r) (rows_at r) r.location (option_map string_bytes c.in_ok-name.name) (decorator_marks d) hs
+    ∙ inclusion-parts (registered_at r) (rows_at r) (name_at r) (position_at r) d hs)
+    (inclusion-out (registered_at r) (rows_at r) r.location (option_map string_bytes c.in_ok-name.name) (decorator_marks d) hs
     (own (html.beginning ∷ [])) (own (without_state hs html.beginning)) c.args.found.now c.check_inclusion.new.found
     c.captured_ends.new.found c.included_ends.new.found c.own_ends.new.found c.in_ok-ahead.ahead.items c.in_ok-named.named.items
     c.in_ok-other.other.items c.in_ok-all_ends.field-0.items c.in_ok-check_inclusion.ensures c.in_ok-ahead.ensures
@@ -139,7 +139,7 @@ read_inline-returns-in_ok-add_leavings-in-Entering t c =
     (sym (ap (λ (z : Body). own_ends_at r z (map html_of c.deref.result.now)) (decorator_body-out c.args.tag.now))
     ∙ ap (λ (zs : List Html). own (map html_of zs)) c.deref.ensures.value
     ∙ ap own c.in_ok-start-in-Entering.ensures
-    ∙ sym (inline-named (is_user_at r) (rows_at r) (name_at r) d n h named))
+    ∙ sym (inline-named (registered_at r) (rows_at r) (name_at r) d n h named))
     c.in_ok-ends-in-Entering.ensures in
     subst (λ (z : Row). AddsFindings (rows_at r) c.args.found.now c.add_leavings.new.found
     (check.findings_of_row (row_of z) (inline_at r d))) (sym c.in-Entering.is)
@@ -152,10 +152,10 @@ tree_ends-elements-preserved t c =
     let r = c.args.reading in
     let e = element_view c.element-item.result in
     let ps = map position_of c.args.template.now.mapping.items in
-    let at = check.element_ends (is_user_at r) (rows_at r) (name_at r) in
+    let at = check.element_ends (registered_at r) (rows_at r) (name_at r) in
     let found = rw c.deref.ensures.value at (position-found c.deref.result.now c.elements.index _ c.get.result
     c.get.ensures.lookup.1 c.get.ensures.lookup.3 c.copied.result c.copied.ensures) in
-    elements-more (is_user_at r) (rows_at r) (name_at r) ps
+    elements-more (registered_at r) (rows_at r) (name_at r) ps
     c.deref-element-items.result.now (map html_of c.args.states.now) c.elements.index c.element-item.result c.elements.ends.items
     c.in_ok-ends-2.ends.items c.args.found.now c.elements.found c.count.new.self c.element_ends.new.found c.elements-test.true
     c.element-item.is
@@ -172,8 +172,8 @@ tree_ends-returns t c =
     let hs = map html_of c.args.states.now in
     let ps = map position_of c.args.template.now.mapping.items in
     ends-same (rows_at r) c.args.found.now c.elements.found c.elements.ends.items _ _
-    (ap (λ (zs : List TemplateElement). check.elements_ends (is_user_at r) (rows_at r) (name_at r) ps (elements_view zs) hs)
+    (ap (λ (zs : List TemplateElement). check.elements_ends (registered_at r) (rows_at r) (name_at r) ps (elements_view zs) hs)
     c.deref-element-items.ensures.value
     ∙ sym (ap (λ (z : Tree). tree_ends_at r z hs) (tree_view-out c.args.template.now)))
-    (elements-end (is_user_at r) (rows_at r) (name_at r) ps c.deref-element-items.result.now hs c.elements.index
+    (elements-end (registered_at r) (rows_at r) (name_at r) ps c.deref-element-items.result.now hs c.elements.index
     c.elements.ends.items c.args.found.now c.elements.found c.elements-test.false c.elements.invariant)

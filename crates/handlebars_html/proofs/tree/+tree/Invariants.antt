@@ -4,7 +4,7 @@ use Rattle.handlebars_template.specs.TreeView.{call_view, decorator_view, positi
 use Rattle.handlebars_template.specs.declared.template.tree.Template.{out-Template}
 use Rattle.handlebars_html.specs.Check.{findings_of_each, findings_of_entered}
 use Rattle.handlebars_html.specs.HtmlView.{html_of}
-use Rattle.handlebars_html.specs.ReadingView.{is_user_at, rows_at, name_at, iteration_at, inline_at}
+use Rattle.handlebars_html.specs.ReadingView.{registered_at, rows_at, name_at, iteration_at, inline_at}
 use Rattle.handlebars_html.specs.RowsView.{row_of}
 use Rattle.handlebars_html.proofs.FoundSoFar.{Accumulates}
 use Rattle.handlebars_html.proofs.TreeEnds.{ElementsFrom}
@@ -12,7 +12,7 @@ use Rattle.handlebars_html.proofs.tree.+tree.Given as goal
 
 abbrev pub invariant-tree_ends-elements : goal.invariant-tree_ends-elements
 invariant-tree_ends-elements l =
-    ElementsFrom (is_user_at l.reading) (rows_at l.reading) (name_at l.reading)
+    ElementsFrom (registered_at l.reading) (rows_at l.reading) (name_at l.reading)
     (map position_of (out-Template l.template).mapping.items) l.element-items (map html_of l.states) l.index l.ends.items
     l.initial.found l.found
 

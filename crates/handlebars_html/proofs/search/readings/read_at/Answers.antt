@@ -2,7 +2,7 @@ use Rattle.std.proofs.Common.{List, map, ap, ◌∙◌, Some}
 use Rattle.handlebars_template.specs.TreeView.{tree_view}
 use Rattle.handlebars_html.specs.Check as check
 use Rattle.handlebars_html.specs.HtmlView.{html_of}
-use Rattle.handlebars_html.specs.Registry.{is_user_in}
+use Rattle.handlebars_html.specs.Registry.{registered_in}
 use Rattle.handlebars_html.specs.RowsView.{rows_of}
 use Rattle.handlebars_html.specs.SearchView.{template_at, user_at}
 use Rattle.handlebars_html.specs.declared.html.Html.{Html}
@@ -14,7 +14,7 @@ pub returns : goal.returns
 returns c =
     let rows = rows_of c.args.table.now in
     let h = html_of c.args.state.now in
-    let ends = check.tree_ends (is_user_in (user_at c.args.checked)) rows (Some c.args.named.name.now)
+    let ends = check.tree_ends (registered_in (user_at c.args.checked)) rows (Some c.args.named.name.now)
     (tree_view c.args.named.template.now) in
     entering-out rows (template_at c.args.checked rows c.args.named h) c.args.found.now c.tree_ends.new.found
     c.add_leavings.new.found c.in_ok-ends.ends.items c.deref-2.result.now
