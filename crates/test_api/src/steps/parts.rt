@@ -19,6 +19,7 @@ pub fn answer(
     match call {
         "helper" => user_helper(alloc, registry, script_parts, name),
         "value_helper" => value_helper(alloc, registry, script_parts, name),
+        "safe_url" => register(alloc, registry, name, HelperEntry::SafeUrl),
         "built_in" => built_in(
             alloc,
             registry,
