@@ -4,7 +4,7 @@ use crate::contexts::RenderingCall;
 use crate::outcome::{Outcome, Stop};
 use crate::registering::MarkupCall;
 use crate::values::ListCall;
-use crate::{contexts, errors, files, registering, scopes, trees, values};
+use crate::{contexts, errors, files, html, registering, scopes, trees, values};
 use std::alloc::Global;
 
 /// A call, by what it belongs to.
@@ -16,6 +16,7 @@ pub enum Call {
     OfContext(contexts::Call),
     OfRegistry(registering::Call),
     OfFiles(files::Call),
+    OfHtml(html::Call),
 }
 
 /// Returns the call of that name, if there is one.
@@ -38,11 +39,12 @@ pub fn outcome(alloc: Global, call: &Call) -> Result<Outcome, Stop> {
         Call::OfContext(call) => contexts::outcome(alloc, call),
         Call::OfRegistry(call) => registering::outcome(alloc, call),
         Call::OfFiles(call) => files::outcome(alloc, call),
+        Call::OfHtml(call) => html::outcome(alloc, call),
     }
 }
 
 /// All calls, by name.
-pub static CALLS: [(&str, Call); 70] = [
+pub static CALLS: [(&str, Call); 74] = [
     ("RenderError::new", Call::OfError(errors::Call::New)),
     (
         "RenderError::strict_error",
@@ -256,5 +258,15 @@ pub static CALLS: [(&str, Call); 70] = [
     (
         "template_markup_faults",
         Call::OfRegistry(registering::Call::OfMarkup(MarkupCall::ReportOfSource)),
+    ),
+    ("html_is_safe", Call::OfHtml(html::Call::Judge)),
+    ("html_faults", Call::OfHtml(html::Call::Report)),
+    (
+        "template_html_is_safe",
+        Call::OfHtml(html::Call::JudgeSource),
+    ),
+    (
+        "template_html_faults",
+        Call::OfHtml(html::Call::ReportOfSource),
     ),
 ];

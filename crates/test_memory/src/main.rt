@@ -12,6 +12,7 @@ mod contexts;
 mod errors;
 mod files;
 mod given;
+mod html;
 mod outcome;
 mod pair;
 mod registering;
