@@ -45,6 +45,20 @@ SAFE = [
     "<blockquote cite=\"/c/{{x}}\">{{x}}</blockquote>",
 ]
 
+# The same with a helper `safe_url`, which is registered as `HelperEntry::SafeUrl`.
+ADDRESSES = [
+    "<a href=\"{{safe_url x}}\">go</a>",
+    "<a href='{{safe_url x}}'>go</a>",
+    "<a href=\" {{safe_url x}} \">{{x}}</a>",
+    "<a href=\"{{safe_url x}}/a?b#c\" title=\"{{x}}\">go</a>",
+    "<a href=\"{{safe_url x}}#{{#if b}}top{{/if}}\">go</a>",
+    "<form action=\"{{safe_url x}}\"><button formaction=\"{{safe_url x}}\">b</button></form>",
+    "<blockquote cite=\"{{safe_url o.y}}\">{{x}}</blockquote>",
+    "<ul>{{#each xs}}<li><a href=\"{{safe_url this}}\">{{this}}</a></li>{{/each}}</ul>",
+    "<svg><a href=\"{{safe_url x}}\"><text>{{x}}</text></a></svg><p>t</p>",
+    "{{#*inline \"p\"}}\n<a href=\"\n  {{safe_url x}}\">go</a>\n{{/inline}}<div>\n  {{> p}}\n</div>",
+]
+
 # Templates of which it has to say that they are not, for the part of a reason that is printed, and a value that breaks them.
 UNSAFE = [
     ("<p class={{x}}>t</p>", "in an attribute without quotes", "a onclick"),
@@ -74,6 +88,8 @@ UNSAFE = [
     ("{{#if b}}<a href=\"{{/if}}{{x}}\">go</a>", "at the beginning of an address", "javascript:top.hit()"),
     ("{{#each xs}}<p title={{/each}}", "an iteration begins", "x"),
     ("{{#*inline \"p\"}}{{x}}{{/inline}}<p>{{> p}}</p><script>{{> p}}</script>", "in the text of `script`", "top.hit()"),
+    ("<a href=\"{{safe_url x}}:top.hit()\">go</a>", "may make a scheme of it", "javascript"),
+    ("<a href=\"{{safe_url 'javascript'}}{{x}}\">go</a>", "in an address that a value has written", ":top.hit()"),
     ("<p title=\"{{#if b}}\" onclick=\"{{/if}}{{x}}\">t</p>", "in an attribute or an address that may be code", "top.hit()"),
 ]
 
