@@ -1,11 +1,13 @@
-//! A caller that renders untrusted data.
+//! Callers that render untrusted data.
 
-ghost use Rattle.std.specs.Prelude.{◌≡◌, IfOk, IfSome, string_bytes};
+ghost use Rattle.std.specs.Prelude.{◌≡◌, IfOk, IfSome, List, string_bytes};
 ghost use Rattle.handlebars_base.specs.EscapeLaws.{marks_in};
 ghost use Rattle.handlebars_scope.specs.Contexts.{data_of};
+ghost use Rattle.handlebars_semantics.specs.Pieces.{Piece, join};
+ghost use Rattle.handlebars_html.specs.Safety.{StandSafely};
 ghost use Rattle.handlebars_markup.specs.Alike.{AreAlike};
 
-use handlebars::{Context, Markup, NoFiles, Registry, RenderError};
+use handlebars::{Context, HtmlSafety, Markup, NoFiles, Registry, RenderError, laws};
 use log::Log;
 
 /// Renders a source over two contexts if its markup is fixed, and returns both texts. Returns none if its markup is not fixed.
@@ -28,4 +30,27 @@ pub fn rendered_alike<L: Log>(
     let text = registry.render_template_with_context(source, one, log, &mut NoFiles)?;
     let with_other = registry.render_template_with_context(source, other, log, &mut NoFiles)?;
     Ok(Some((text, with_other)))
+}
+
+/// Renders a source over a context if data stands only where it is harmless in HTML, whatever the data. Returns none if it may stand
+/// elsewhere, or if that isn't known.
+///
+/// The text is made of pieces, of which each that comes from data stands where it may.
+pub fn rendered_safely<L: Log>(
+    registry: &Registry,
+    source: &str,
+    context: &Context,
+    log: &L,
+) -> Result<Option<String>, RenderError>
+    ensures { IfOk result (λ page. IfSome page (λ text.
+        (ps : List Piece) × (string_bytes text ≡ join ps) × StandSafely ps)) }
+{
+    match registry.template_html_is_safe(source, &mut NoFiles)? {
+        HtmlSafety::Safe => {}
+        HtmlSafety::Unsafe(_) => return Ok(None),
+        HtmlSafety::Undecided => return Ok(None),
+    }
+    let text = registry.render_template_with_context(source, context, log, &mut NoFiles)?;
+    laws::one_compilation();
+    Ok(Some(text))
 }

@@ -3,7 +3,7 @@
 use crate::caller::rendered_again;
 use crate::state::Given;
 use crate::steps::functions;
-use crate::strangers::rendered_alike;
+use crate::strangers::{rendered_alike, rendered_safely};
 use handlebars::{
     Context, Decorator, Expand, JsonValue, NoFiles, Parameter, Registry, RenderContext,
     RenderError, Renderable, StringOutput, Template, expand_partial,
@@ -59,6 +59,7 @@ fn of_registry(given: Given<'_>, call: &str, step: &JsonValue) -> Answer {
         "error" => error_in(alloc, of_source(given, source)),
         "again" => shown(alloc, rendered_again(registry, source, data, &Discard)),
         "alike" => alike(given, source, context_of(step, "other")),
+        "safely" => shown(alloc, rendered_safely(registry, source, data, &Discard)),
         _ => Err(Stop::Call),
     }
 }
