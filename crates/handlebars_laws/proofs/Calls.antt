@@ -1,8 +1,9 @@
 -- What a law says holds of calls: of what helpers choose, and of lone expressions.
 use Rattle.std.proofs.Common.{◌≡◌, ℕ, ◌+◌, List, [], ◌∷◌, Bool, true, false, refl, ap, ◌∙◌, subst, Option, Some, None, arith}
 use Rattle.std.specs.List.{slice_get}
-use Rattle.handlebars_base.specs.Answers.{Answer, gives}
+use Rattle.handlebars_base.specs.Answers.{Answer, gives, fails}
 use Rattle.handlebars_base.specs.Bytes.{Text}
+use Rattle.handlebars_base.specs.Reasons.{Refusal}
 use Rattle.handlebars_base.specs.Scoped.{Found, walked, value, missing, present_in}
 use Rattle.handlebars_base.specs.Values.{boolean_text}
 use Rattle.handlebars_template.specs.Tree.{Element, Call, call_name, call_args, call_body, call_inverse, call_marks, is_value}
@@ -23,6 +24,7 @@ use Rattle.handlebars_semantics.specs.Occurrences.{as_iteration, as_part, Time, 
 use Rattle.handlebars_semantics.specs.State.{Setting, State, push_frame, with_nearest, nearest_variables}
 use Rattle.handlebars_semantics.specs.Steps.{Task, One, Prog, ◌>>=◌, ◌>>◌}
 use Rattle.handlebars_semantics.specs.Writing.{rendered_if_any, write_rendered, write_value}
+use Rattle.handlebars_laws.proofs.Failures.{for_view, for_call, for_value, for_hook, for_choice, for_escape}
 use Rattle.handlebars_laws.proofs.Closed.{ComesToCall, call_of-shown, element_body-call, element_inverse-call, Closed}
 use Rattle.handlebars_laws.proofs.Law.{Law}
 use Rattle.handlebars_laws.proofs.Programs.{upto, any, LeadsThrough, LeadsThrough-any, ask-holds, return-holds, write_text-holds, in_scope_frame-holds, on_line-holds, render_branch-holds}
@@ -50,6 +52,10 @@ module _ (p : Setting) (s : State) (line : LineState) where
       goes_on is (HasRegisteredChoice-line c.0 c.1 a next)
   HasChoice-line (calls_local called) h _ (first_fails is) = first_fails is
 
+-- the question for the helper of a name doesn't fail
+no_failure : {A P : Type 0} {x : A} {r : Refusal} → fails r ≡ gives x → P
+no_failure is = cc
+
 -- ---- calls, by the element at an occurrence to which the run came in a state before
 
 module _ (p : Setting) (law : Law) (closed : Closed p law) (occurrence : Occurrence) (e : Element) where
@@ -73,37 +79,40 @@ module _ (p : Setting) (law : Law) (closed : Closed p law) (occurrence : Occurre
 
       -- ---- bodies
 
-      render_body_at-holds : (time : Time) (s : State) → law.Fits occurrence s
+      render_body_at-holds : (time : Time) (s : State) → law.Fits occurrence before s
           → Goes (ordinal_of time) (upto (ordinal_of time + 1)) s (render_branch (body_at occurrence time) (call_body c))
       render_body_at-holds time s fits =
           render_branch-holds p law closed this (ordinal_of time) (body_at occurrence time) (call_body c) s
           (λ t is h. closed.body_part time comes (call_of-shown (is_block e) block (element_call e) c shown)
           (element_body-call e block c shown ∙ ap body_tree is) fits h)
+          (λ t is z over. closed.body_next comes (call_of-shown (is_block e) block (element_call e) c shown)
+          (element_body-call e block c shown ∙ ap body_tree is) over)
 
-      render_body-holds : (i : ℕ) (s : State) → law.Fits occurrence s → Goes i (upto (i + 1)) s (render_body occurrence i view)
+      render_body-holds : (i : ℕ) (s : State) → law.Fits occurrence before s → Goes i (upto (i + 1)) s (render_body occurrence i view)
       render_body-holds i = render_body_at-holds (as_part i)
 
-      render_inverse-holds : (i : ℕ) (s : State) → law.Fits occurrence s
+      render_inverse-holds : (i : ℕ) (s : State) → law.Fits occurrence before s
           → Goes i (upto (i + 1)) s (render_branch (inverse_at occurrence i) (call_inverse c))
       render_inverse-holds i s fits =
           render_branch-holds p law closed this i (inverse_at occurrence i) (call_inverse c) s
           (λ t is h. closed.inverse_part i comes (element_inverse-call e block c shown ∙ ap body_tree is) fits h)
+          (λ t is z over. closed.inverse_next comes (element_inverse-call e block c shown ∙ ap body_tree is) over)
 
       -- as the one part that is rendered
-      render_body-any : (s : State) → law.Fits occurrence s → Goes 0 any s (render_body occurrence 0 view)
+      render_body-any : (s : State) → law.Fits occurrence before s → Goes 0 any s (render_body occurrence 0 view)
       render_body-any s fits = LeadsThrough-any p law this (render_body occurrence 0 view) (render_body-holds 0 s fits)
 
-      render_inverse-any : (s : State) → law.Fits occurrence s → Goes 0 any s (render_branch (inverse_at occurrence 0) (call_inverse c))
+      render_inverse-any : (s : State) → law.Fits occurrence before s → Goes 0 any s (render_branch (inverse_at occurrence 0) (call_inverse c))
       render_inverse-any s fits = LeadsThrough-any p law this (render_branch (inverse_at occurrence 0) (call_inverse c))
           (render_inverse-holds 0 s fits)
 
-      render_with-holds : (s : State) (base : Base) → law.Fits occurrence s → Goes 0 any s (render_with occurrence view base)
+      render_with-holds : (s : State) (base : Base) → law.Fits occurrence before s → Goes 0 any s (render_with occurrence view base)
       unfolding ◌>>=◌
       render_with-holds s base fits h end i le next g =
           in_scope_frame-holds p law closed this s (with_frame base view.binding (nearest_variables s.blocks))
           (render_body occurrence 0 view) (closed.with_enters _ _ _) (render_body-any _ (closed.block_fits fits)) h end i le next g
 
-      run_iterations-hold : (i : ℕ) (path : Option (List Text)) (ts : List Iteration) (s : State) → law.Fits occurrence s
+      run_iterations-hold : (i : ℕ) (path : Option (List Text)) (ts : List Iteration) (s : State) → law.Fits occurrence before s
           → Goes i any s (run_iterations occurrence i view path ts)
       unfolding ◌>>=◌ ◌>>◌
       run_iterations-hold i path [] s fits h end l le next g = g l s tt (closed.same_next h)
@@ -116,18 +125,19 @@ module _ (p : Setting) (law : Law) (closed : Closed p law) (occurrence : Occurre
 
       -- ---- values
 
-      write_rendered-holds : (s : State) (found : Found) (b : Bool) → s.escapes ≡ b → law.Fits occurrence s
+      write_rendered-holds : (s : State) (found : Found) (b : Bool) → s.escapes ≡ b → law.Fits occurrence before s
           → WritesValue p block c before v found → Goes 0 any s (write_rendered occurrence found b)
       unfolding ◌>>=◌
       write_rendered-holds s found true is fits has = λ h end i le next g.
-          ask-holds p law this end i s (escape_of (rendered_if_any (present_in found))) _ (λ t shows.
+          ask-holds p law this end i s (escape_of (rendered_if_any (present_in found))) _
+          (λ r failed. closed.fails comes (for_escape _ r failed)) (λ t shows.
           write_text-holds p law closed this s (of_value occurrence found) t
           (closed.value_written t called has fits is shows) h end i le next g)
       write_rendered-holds s found false is fits has =
           write_text-holds p law closed this s (of_raw occurrence found) (rendered_if_any (present_in found))
           (closed.raw_written called has fits is)
 
-      write_value-holds : (s : State) (found : Found) → law.Fits occurrence s → WritesValue p block c before v found
+      write_value-holds : (s : State) (found : Found) → law.Fits occurrence before s → WritesValue p block c before v found
           → Goes 0 any s (write_value occurrence found)
       unfolding ◌>>=◌
       write_value-holds s found fits has = write_rendered-holds s found s.escapes refl fits has
@@ -148,7 +158,7 @@ module _ (p : Setting) (law : Law) (closed : Closed p law) (occurrence : Occurre
             closed.boolean_text_written b (subst (λ (z : Bool). ComesToCall p law occurrence e z c before v) plain called)
             (subst (λ (z : Bool). Chooses p z c before v (the_boolean b)) plain (chooses (the_boolean b) chose))
 
-        render_boolean-holds : (s : State) (tag b : Bool) → block ≡ tag → law.Fits occurrence s → Chose (the_boolean b)
+        render_boolean-holds : (s : State) (tag b : Bool) → block ≡ tag → law.Fits occurrence before s → Chose (the_boolean b)
             → Goes 0 any s (render_boolean occurrence view tag b)
         render_boolean-holds s false b is fits chose = λ h end i le next g.
             (MayWrite-boolean_text b is chose, g i s tt (closed.same_next h))
@@ -156,7 +166,7 @@ module _ (p : Setting) (law : Law) (closed : Closed p law) (occurrence : Occurre
         render_boolean-holds s true false is fits chose = render_inverse-any s fits
 
         module _ (all : List Step) (chose : Chose (the_steps all)) where
-          take_step-holds : (s : State) (i : ℕ) (step : Step) → law.Fits occurrence s → slice_get all i ≡ Some step
+          take_step-holds : (s : State) (i : ℕ) (step : Step) → law.Fits occurrence before s → slice_get all i ≡ Some step
               → Goes i (upto (i + 1)) s (take_step occurrence view i step)
           take_step-holds s i (writes t) fits is = λ h end l le next g. (
             closed.step_written i t called (chooses (the_steps all) chose) is,
@@ -169,7 +179,7 @@ module _ (p : Setting) (law : Law) (closed : Closed p law) (occurrence : Occurre
               (closed.passed_enters i called (chooses (the_steps all) chose) is)
               (render_body-holds i (push_frame f s) (closed.block_fits fits))
 
-          take_steps-hold : (s : State) (i : ℕ) (steps : List Step) → law.Fits occurrence s → StepsFrom all i steps
+          take_steps-hold : (s : State) (i : ℕ) (steps : List Step) → law.Fits occurrence before s → StepsFrom all i steps
               → Goes i any s (take_steps occurrence view i steps)
           unfolding ◌>>◌
           take_steps-hold s i [] fits from h end l le next g = g l s tt (closed.same_next h)
@@ -179,7 +189,7 @@ module _ (p : Setting) (law : Law) (closed : Closed p law) (occurrence : Occurre
               take_steps-hold n (i + 1) steps (closed.next_fits fits is) (steps_after all i step steps from)
               (closed.next_well is) end j far next (λ k z to same. g k z to (closed.then_next is same)))
 
-        execute-holds : (s : State) (choice : Choice) → law.Fits occurrence s → Chose choice
+        execute-holds : (s : State) (choice : Choice) → law.Fits occurrence before s → Chose choice
             → Goes 0 any s (execute occurrence view choice)
         execute-holds s the_body fits chose = render_body-any s fits
         execute-holds s the_inverse fits chose = render_inverse-any s fits
@@ -195,32 +205,35 @@ module _ (p : Setting) (law : Law) (closed : Closed p law) (occurrence : Occurre
         execute-holds s nothing fits chose = return-holds p law closed this s
 
         -- asked in a state in which it chooses as in the one before
-        render_chosen-holds : (s : State) → law.Fits occurrence s
+        render_chosen-holds : (s : State) → law.Fits occurrence before s
             → ((a : Answer Choice) → IsAnswered p s (choice_of k view) a → IsAnswered p before (choice_of k view) a)
             → Goes 0 any s (render_chosen occurrence k view)
         unfolding ◌>>=◌
         render_chosen-holds s fits same h end i le next g =
-            ask-holds p law this end i s (choice_of k view) _ (λ choice chose.
+            ask-holds p law this end i s (choice_of k view) _
+            (λ r failed. closed.fails comes (for_choice r shown viewed calls (same _ failed))) (λ choice chose.
             execute-holds s choice fits (same _ chose) h end i le next g)
 
-        render_helped-holds : law.Fits occurrence before → Goes 0 any before (render_helped occurrence block c k seen)
+        render_helped-holds : law.Fits occurrence before before → Goes 0 any before (render_helped occurrence block c k seen)
         render_helped-holds fits h =
             let enter = line_in (call_marks c).indent_before_write in
             on_line-holds p law closed this before enter (render_chosen occurrence k view)
             (render_chosen-holds (record before { line = enter before.line })
             (closed.next_fits fits (closed.line_next _ h)) (HasChoice-line p before (enter before.line) k view)) h
 
-    pub render_call-holds : is_lone block c ≡ false → law.Fits occurrence before → Goes 0 any before (render_call occurrence block c)
+    pub render_call-holds : is_lone block c ≡ false → law.Fits occurrence before before → Goes 0 any before (render_call occurrence block c)
     unfolding ◌>>=◌
     render_call-holds not_lone fits h end i le next g =
-        ask-holds p law this end i before (view_of (call_name c) (call_args c)) _ (λ v viewed.
-        ask-holds p law this end i before (called_as block c v) _ (λ x is.
+        ask-holds p law this end i before (view_of (call_name c) (call_args c)) _
+        (λ r failed. closed.fails comes (for_view r shown failed)) (λ v viewed.
+        ask-holds p law this end i before (called_as block c v) _
+        (λ r failed. closed.fails comes (for_call r shown viewed not_lone failed)) (λ x is.
         render_helped-holds v viewed x.1 x.0 (as_called not_lone is) fits h end i le next g))
 
   -- ---- expressions
 
   module _ (c : Call) (shown : shown_call e ≡ Some (false, c)) (s : State) (comes : law.ComesTo occurrence e s)
-      (fits : law.Fits occurrence s) where
+      (fits : law.Fits occurrence s s) where
     module _ (lone : is_value c ≡ true) where
       module _ (v : CallView) (viewed : IsAnswered p s (view_of (call_name c) (call_args c)) (gives v)) where
         render_hook-holds : (o : Option Target) → IsAnswered p s (hook_for (call_name c)) (gives o)
@@ -235,22 +248,25 @@ module _ (p : Setting) (law : Law) (closed : Closed p law) (occurrence : Occurre
             write_value-holds false c shown s comes v viewed v s (walked d path) fits (of_itself tt has)
         render_found-holds (value d) has = write_value-holds false c shown s comes v viewed v s (value d) fits (of_itself tt has)
         render_found-holds missing has = λ h end i le next g.
-            ask-holds p law this end i s (hook_for (call_name c)) _ (λ o is.
+            ask-holds p law this end i s (hook_for (call_name c)) _
+            (λ r failed. closed.fails comes (for_hook r shown lone failed)) (λ o is.
             render_hook-holds o is has h end i le next g)
 
         render_lone_as-holds : (o : Option Target) → IsAnswered p s (helper_of v.name) (gives o)
             → Goes 0 any s (render_lone_as occurrence c v o)
         unfolding ◌>>=◌
         render_lone_as-holds None without = λ h end i le next g.
-            ask-holds p law this end i s (value_of (call_name c)) _ (λ found has.
+            ask-holds p law this end i s (value_of (call_name c)) _
+            (λ r failed. closed.fails comes (for_value r shown lone failed)) (λ found has.
             render_found-holds found (record { lone = lone; no_helper = without; has = has }) h end i le next g)
         render_lone_as-holds (Some k) helps = render_helped-holds false c shown s comes v viewed v k (by_name lone helps) fits
 
       render_lone-holds : Goes 0 any s (render_lone occurrence c)
       unfolding ◌>>=◌
       render_lone-holds h end i le next g =
-          ask-holds p law this end i s (view_of (call_name c) (call_args c)) _ (λ v viewed.
-          ask-holds p law this end i s (helper_of v.name) _ (λ o is.
+          ask-holds p law this end i s (view_of (call_name c) (call_args c)) _
+          (λ r failed. closed.fails comes (for_view r shown failed)) (λ v viewed.
+          ask-holds p law this end i s (helper_of v.name) _ (λ r failed. no_failure failed) (λ o is.
           render_lone_as-holds v viewed o is h end i le next g))
 
     render_expression-as : (b : Bool) → is_value c ≡ b → Goes 0 any s (render_expression occurrence c)

@@ -1,5 +1,6 @@
 pub mod Lists
 pub mod Outcomes
+pub mod Failures
 pub mod RelatedAnswers
 pub mod OneAnswer
 pub mod SameAnswers

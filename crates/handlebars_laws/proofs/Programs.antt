@@ -2,6 +2,7 @@
 use Rattle.std.proofs.Common.{◌≡◌, ℕ, ◌+◌, ◌≤◌, false, refl, arith}
 use Rattle.handlebars_base.specs.Answers.{Answer, gives, fails}
 use Rattle.handlebars_base.specs.Bytes.{Text}
+use Rattle.handlebars_base.specs.Reasons.{Refusal}
 use Rattle.handlebars_template.specs.Tree.{Tree, Body, no_body, body}
 use Rattle.handlebars_scope.specs.LineState.{LineState}
 use Rattle.handlebars_scope.specs.Scopes.{Frame}
@@ -37,14 +38,17 @@ module _ (p : Setting) (law : Law) (x : Task) where
   LeadsThrough-any k f h end i le next g = f h end i le next (λ j z to is. g j z tt is)
 
   answer-holds : (end : ℕ → State → Type 0) (n : ℕ) (s : State) (q : Question) (f : Reply q → Steps)
+      → ((r : Refusal) → IsAnswered p s q (fails r) → law.MayFail r.reason)
       → ((v : Reply q) → IsAnswered p s q (gives v) → HoldsThrough p law x end n s (f v))
       → (a : Answer (Reply q)) → IsAnswered p s q a → HoldsThrough p law x end n s (answer a f)
-  answer-holds end n s q f h (gives v) is = h v is
-  answer-holds end n s q f h (fails r) is = tt
+  answer-holds end n s q f may h (gives v) is = h v is
+  answer-holds end n s q f may h (fails r) is = may r is
 
+  -- It may fail for what the question fails for.
   pub ask-holds : (end : ℕ → State → Type 0) (n : ℕ) (s : State) (q : Question) (f : Reply q → Steps)
+      → ((r : Refusal) → IsAnswered p s q (fails r) → law.MayFail r.reason)
       → ((v : Reply q) → IsAnswered p s q (gives v) → HoldsThrough p law x end n s (f v)) → HoldsThrough p law x end n s (ask q f)
-  ask-holds end n s q f h = (λ r. refl, answer-holds end n s q f h)
+  ask-holds end n s q f may h = (λ r. refl, answer-holds end n s q f may h)
 
 module _ (p : Setting) (law : Law) (closed : Closed p law) (x : Task) where
   pub return-holds : {n : ℕ} (s : State) → LeadsThrough p law x n any s (return tt)
@@ -78,7 +82,8 @@ module _ (p : Setting) (law : Law) (closed : Closed p law) (x : Task) where
 
   pub render_branch-holds : (n : ℕ) (at : TreeOccurrence) (b : Body) (s : State)
       → ((t : Tree) → b ≡ body t → law.IsWell s → law.IsPart x n s (Whole at t))
+      → ((t : Tree) → b ≡ body t → (z : State) → law.IsAfter (Whole at t) s z → law.IsNext s z)
       → LeadsThrough p law x n (upto (n + 1)) s (render_branch at b)
-  render_branch-holds n at no_body s part h end i le next g = g i s (omega (arith, le)) (closed.same_next h)
-  render_branch-holds n at (body t) s part h end i le next g =
-      (n, le, part t refl h, λ z is. g (n + 1) z (omega arith) is)
+  render_branch-holds n at no_body s part after h end i le next g = g i s (omega (arith, le)) (closed.same_next h)
+  render_branch-holds n at (body t) s part after h end i le next g =
+      (n, le, part t refl h, λ z is. g (n + 1) z (omega arith) (after t refl z is))

@@ -109,9 +109,12 @@ module _ (p : Setting) (u : Tree) (blocks : List Frame) (vs : List Visit) where
     IsNext = λ s n. IsReachedFrom p u blocks vs s n;
     MayEnter = λ f. IsFrameOfRun p u blocks vs f;
     ComesTo = λ occurrence e s. ComesAt occurrence e s;
-    Fits = λ occurrence s. FitsAt occurrence s;
+    Fits = λ occurrence b s. FitsAt occurrence s;
     Begins = λ t s. BeginsAt t s;
     IsPart = λ x m s t. BeginsAt t s;
+    IsAfter = λ t s n. IsReachedFrom p u blocks vs s n;
+    IsAmid = λ x i s n. IsReachedFrom p u blocks vs s n;
+    MayFail = λ r. Unit {0};
     MayWrite = λ ps. HaveOrigins p u vs ps;
     AreKnown = λ xs. (v : Visit) → Contains xs v → Contains vs v;
     AreIn = λ x n m xs. OccurInTrees p u blocks vs xs;
@@ -180,10 +183,9 @@ module _ (p : Setting) (u : Tree) (blocks : List Frame) (vs : List Visit) where
     next_fits = λ {occurrence = occurrence} {s = s} {n = n} h is.
         record { raw = is.escapes ∙ h.raw; indented = IsIndented-next (tree_occurrence_of occurrence) s.indent n.indent is.indent h.indented };
     line_next = λ l h. after refl refl h;
-    name_next = λ name h. after refl refl h;
     data_next = λ d h. after refl refl h;
-    local_next = λ name l h. after refl refl h;
-    no_local_next = λ name h. after refl refl h;
+    local_next = λ name l tagged acts has h. after refl refl h;
+    no_local_next = λ name tagged acts has h. after refl refl h;
     iteration_next = λ {s = s} path b t h. after refl refl (record {
       captured = h.captured;
       frames = nearest_as-frames p u blocks vs (iteration_frame path b t) s.blocks (iteration_frame-frame p u blocks vs path b t) h.frames;
@@ -279,7 +281,7 @@ module _ (p : Setting) (u : Tree) (blocks : List Frame) (vs : List Visit) where
           indented = around_inverse fits.indented;
           of_run = h;
         };
-    local_part = λ {occurrence = occurrence} {t = t} {x = x} {before = before} {s = s} {v = v} tagged finds well is fits fit h.
+    local_part = λ {occurrence = occurrence} {t = t} {x = x} {before = before} {s = s} {v = v} f tagged finds well is fits fit was h.
         let there = ComesToTag-tagged tagged in record {
           occurs = (
             is_local_of tagged.comes.of_run.0 there finds (partial_in-local p u blocks vs s.blocks well.frames v.name x is),
@@ -289,7 +291,7 @@ module _ (p : Setting) (u : Tree) (blocks : List Frame) (vs : List Visit) where
           indented = included_at-indents occurrence (tree_name x) x t s.indent fits.indented there.occurs;
           of_run = h;
         };
-    registered_part = λ {occurrence = occurrence} {t = t} {x = x} {before = before} {s = s} {v = v} tagged finds fits fit h.
+    registered_part = λ {occurrence = occurrence} {t = t} {x = x} {before = before} {s = s} {v = v} f tagged finds fits fit was h.
         let there = ComesToTag-tagged tagged in record {
           occurs = (is_stored tagged.comes.of_run.0 there finds, refl);
           raw = fit.raw;
@@ -303,6 +305,15 @@ module _ (p : Setting) (u : Tree) (blocks : List Frame) (vs : List Visit) where
           indented = own_block-indents occurrence x t before v s.indent fits.indented (ComesToTag-tagged tagged) finds;
           of_run = h;
         };
+    body_next = λ at call is over. over;
+    inverse_next = λ at is over. over;
+    ahead_next = λ tagged is over. over;
+    element_after = λ at plain is. is;
+    decorator_after = λ tagged acts is. is;
+    amid_first = λ h. after refl refl h.of_run;
+    amid_next = λ i amid is over. after (over.escapes ∙ amid.escapes) (over.indent ∙ amid.indent) over.of_run;
+    amid_last = λ i amid is. amid;
+    fails = λ at failed. tt;
     text_written = λ {occurrence = occurrence} {t = t} {s = s} at fits h.
         let comes : (a : Text) → IsWithin a t → IsOfText u vs occurrence a =
         λ a within. record { all = t; occurs = at.occurs; state = s; reached = at.reached; is = within } in

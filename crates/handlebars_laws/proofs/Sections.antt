@@ -109,7 +109,7 @@ module _ (all : Setting) where
       did_capture (Runs-stays a x _ n g tt) (Runs-stays b x end obeys.to (obeys.ends ps tt) h)
   Runs-stays (did_capture_over a over) x end n g h = did_capture_over (Runs-stays a x _ n g h) over
   Runs-stays (looked r) x end n g h = looked (Runs-stays r x end n g h)
-  Runs-stays (below_limit lt r) x end n g h = below_limit lt (Runs-stays r x end n g h)
+  Runs-stays (below_limit lt r) x end n g h = below_limit lt (Runs-stays r x end n g.1 h)
   Runs-stays (at_limit full) x end n g h = at_limit full
   Runs-stays stop x end n g h = stop
   Runs-stays (cut i f) x end n g h = cut i f
