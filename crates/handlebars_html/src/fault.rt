@@ -1,6 +1,7 @@
 //! What breaks the rule of data in a template or in a registry, and where.
 
 ghost use Rattle.std.specs.Prelude.{◌≡◌, OnOk, map, option_map, string_bytes};
+ghost use Rattle.std.specs.Str.{bytes_eq};
 ghost use Rattle.handlebars_html.specs.Faults as definitions;
 ghost use Rattle.handlebars_html.specs.RowsView.{fault_of, why_of};
 
@@ -9,7 +10,7 @@ use crate::same::is_same;
 use std::alloc::AllocError;
 
 /// Why data may stand where it must not.
-#[derive(Debug, Drop)]
+#[derive(Debug)]
 pub enum HtmlFaultReason {
     /// A value stands in this state, in which data may not stand.
     UnsafeValue(Html),
@@ -49,13 +50,57 @@ pub enum HtmlFaultReason {
     UserDecorator(String),
 }
 
+// Not derived, so that each drop of one is a single call.
+impl Drop for HtmlFaultReason {
+    fn drop(self) {
+        match self {
+            HtmlFaultReason::UnsafeValue(_) => {}
+            HtmlFaultReason::UnreadValue => {}
+            HtmlFaultReason::UnescapedValue => {}
+            HtmlFaultReason::ChangedText(_) => {}
+            HtmlFaultReason::LateAttribute => {}
+            HtmlFaultReason::ChangedAddress => {}
+            HtmlFaultReason::ChangedByIteration(_, _) => {}
+            HtmlFaultReason::ChangedByBlock(_) => {}
+            HtmlFaultReason::CapturedTextIn(_) => {}
+            HtmlFaultReason::MadeInclusion => {}
+            HtmlFaultReason::MadeBlock => {}
+            HtmlFaultReason::OtherIndent => {}
+            HtmlFaultReason::ExpressionBodies => {}
+            HtmlFaultReason::OtherEscape => {}
+            HtmlFaultReason::HelperWithSteps(_) => {}
+            HtmlFaultReason::MisplacedHelper(_) => {}
+            HtmlFaultReason::UserHook(_) => {}
+            HtmlFaultReason::UserDecorator(_) => {}
+        }
+    }
+}
+
 /// A fault: the name of the template, if it has one, the line and the column, if they are known, and the reason.
-#[derive(Debug, Drop)]
+#[derive(Debug)]
 pub struct HtmlFault {
     pub template_name: Option<String>,
     pub line_no: Option<usize>,
     pub column_no: Option<usize>,
     pub reason: HtmlFaultReason,
+}
+
+// Not derived, so that each drop of one is a single call.
+impl Drop for HtmlFault {
+    fn drop(self) {
+        let HtmlFault {
+            template_name: _,
+            line_no: _,
+            column_no: _,
+            reason: _,
+        } = self;
+    }
+}
+
+fn is_same_text(x: &String, y: &String) -> bool
+    ensures { result ≡ bytes_eq (string_bytes x.now) (string_bytes y.now) }
+{
+    x.as_str() == y.as_str()
 }
 
 fn is_same_why(x: &HtmlFaultReason, y: &HtmlFaultReason) -> bool
@@ -78,14 +123,14 @@ fn is_same_why(x: &HtmlFaultReason, y: &HtmlFaultReason) -> bool
         (HtmlFaultReason::ExpressionBodies, HtmlFaultReason::ExpressionBodies) => true,
         (HtmlFaultReason::OtherEscape, HtmlFaultReason::OtherEscape) => true,
         (HtmlFaultReason::HelperWithSteps(n), HtmlFaultReason::HelperWithSteps(m)) => {
-            n.as_str() == m.as_str()
+            is_same_text(n, m)
         }
         (HtmlFaultReason::MisplacedHelper(n), HtmlFaultReason::MisplacedHelper(m)) => {
-            n.as_str() == m.as_str()
+            is_same_text(n, m)
         }
-        (HtmlFaultReason::UserHook(n), HtmlFaultReason::UserHook(m)) => n.as_str() == m.as_str(),
+        (HtmlFaultReason::UserHook(n), HtmlFaultReason::UserHook(m)) => is_same_text(n, m),
         (HtmlFaultReason::UserDecorator(n), HtmlFaultReason::UserDecorator(m)) => {
-            n.as_str() == m.as_str()
+            is_same_text(n, m)
         }
         (_, _) => false,
     }
@@ -96,7 +141,7 @@ fn is_same_name(x: &Option<String>, y: &Option<String>) -> bool
 {
     match (x, y) {
         (None, None) => true,
-        (Some(n), Some(m)) => n.as_str() == m.as_str(),
+        (Some(n), Some(m)) => is_same_text(n, m),
         (_, _) => false,
     }
 }

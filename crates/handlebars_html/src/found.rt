@@ -23,7 +23,7 @@ const MOST_PAIRS: usize = 1 << 22;
 
 /// What was found so far: rows that a table lacks, and what breaks the rule, each fault once. Beside it stands what decides in
 /// which order a search goes on, and when it ends.
-#[derive(Debug, Drop)]
+#[derive(Debug)]
 pub struct Found {
     pub rows: Vec<Row>,
     pub faults: Vec<HtmlFault>,
@@ -33,6 +33,19 @@ pub struct Found {
     pub has_inlines: bool,
     /// How many pairs of states may still be compared.
     left: usize,
+}
+
+// Not derived, so that each drop of one is a single call.
+impl Drop for Found {
+    fn drop(self) {
+        let Found {
+            rows: _,
+            faults: _,
+            places: _,
+            has_inlines: _,
+            left: _,
+        } = self;
+    }
 }
 
 impl Found {
@@ -71,14 +84,40 @@ impl Found {
     /// # Errors
     ///
     /// Fails if memory runs out.
-    pub fn append(&mut self, part: Found) -> Result<(), AllocError>
+    pub fn append(&mut self, mut part: Found) -> Result<(), AllocError>
         ensures { OnOk result (found_of self.new ≡ check.both_findings (found_of self.old) (found_of part)) }
     {
-        let mut rows = part.rows;
-        let mut faults = part.faults;
-        self.rows.append(&mut rows)?;
-        self.faults.append(&mut faults)?;
+        self.rows.append(&mut part.rows)?;
+        self.faults.append(&mut part.faults)?;
         Ok(())
+    }
+
+    /// Returns the rows alone.
+    pub fn into_rows(self) -> Vec<Row>
+        ensures { result ≡ self.rows }
+    {
+        let Found {
+            rows,
+            faults: _,
+            places: _,
+            has_inlines: _,
+            left: _,
+        } = self;
+        rows
+    }
+
+    /// Returns the faults alone.
+    pub fn into_faults(self) -> Vec<HtmlFault>
+        ensures { result ≡ self.faults }
+    {
+        let Found {
+            rows: _,
+            faults,
+            places: _,
+            has_inlines: _,
+            left: _,
+        } = self;
+        faults
     }
 }
 

@@ -34,10 +34,32 @@ pub struct Context {
 }
 
 /// The state of a tokenizer, with its context.
-#[derive(Debug, Drop)]
+#[derive(Debug)]
 pub struct Html {
     pub tokenizer: Tokenizer,
     pub context: Context,
+}
+
+// Not derived, so that each drop of one is a single call.
+impl Drop for Html {
+    fn drop(self) {
+        let Html {
+            tokenizer: _,
+            context: _,
+        } = self;
+    }
+}
+
+impl Html {
+    fn into_tokenizer(self) -> Tokenizer
+        ensures { result ≡ self.tokenizer }
+    {
+        let Html {
+            tokenizer,
+            context: _,
+        } = self;
+        tokenizer
+    }
 }
 
 /// Returns the state in which a document begins.
@@ -175,13 +197,13 @@ fn end_tag(state: Html, alloc: Global) -> Result<Html, AllocError>
     ensures { IfOk result (λ h. html_of h ≡ html.end_tag (html_of state) (tokenizer.open_tag (tokenizer_of state.tokenizer))) }
 {
     let context = state.context;
-    match state.tokenizer {
-        Tokenizer::TagName(ends, name) => enter(tag_of(ends, name).content, context, alloc),
-        Tokenizer::BeforeAttribute(tag) => enter(tag.content, context, alloc),
-        Tokenizer::AttributeName(tag, _) => enter(tag.content, context, alloc),
-        Tokenizer::AfterAttribute(tag, _) => enter(tag.content, context, alloc),
-        Tokenizer::BeforeValue(tag, _) => enter(tag.content, context, alloc),
-        Tokenizer::Unquoted(tag) => enter(tag.content, context, alloc),
+    match state.into_tokenizer() {
+        Tokenizer::TagName(ends, name) => enter(tag_of(ends, name).into_content(), context, alloc),
+        Tokenizer::BeforeAttribute(tag) => enter(tag.into_content(), context, alloc),
+        Tokenizer::AttributeName(tag, _) => enter(tag.into_content(), context, alloc),
+        Tokenizer::AfterAttribute(tag, _) => enter(tag.into_content(), context, alloc),
+        Tokenizer::BeforeValue(tag, _) => enter(tag.into_content(), context, alloc),
+        Tokenizer::Unquoted(tag) => enter(tag.into_content(), context, alloc),
         Tokenizer::Plain(plain) => after_greater(Tokenizer::Plain(plain), context, alloc),
         Tokenizer::Quoted(double, tag, value) => {
             after_greater(Tokenizer::Quoted(double, tag, value), context, alloc)
@@ -241,7 +263,7 @@ fn begin_tag(state: Html, alloc: Global) -> Result<Html, AllocError>
     if context.in_noscript && !begins_tag(&state.tokenizer) {
         return Ok(plain(Plain::Stuck, context));
     }
-    let tokenizer = next(state.tokenizer, b'<', alloc)?;
+    let tokenizer = next(state.into_tokenizer(), b'<', alloc)?;
     Ok(Html { tokenizer, context })
 }
 
@@ -260,7 +282,7 @@ pub fn step(state: Html, byte: u8, alloc: Global) -> Result<Html, AllocError>
         return begin_tag(state, alloc);
     }
     let context = state.context;
-    let tokenizer = next(state.tokenizer, byte, alloc)?;
+    let tokenizer = next(state.into_tokenizer(), byte, alloc)?;
     Ok(Html { tokenizer, context })
 }
 
@@ -312,7 +334,7 @@ pub fn after_url(state: Html) -> Html
     if begins_url(&state.tokenizer) {
         let context = state.context;
         Html {
-            tokenizer: after_address(state.tokenizer),
+            tokenizer: after_address(state.into_tokenizer()),
             context,
         }
     } else {

@@ -12,12 +12,22 @@ use crate::states::add_state;
 use std::alloc::{AllocError, Global};
 
 /// A row of a table.
-#[derive(Debug, Drop)]
+#[derive(Debug)]
 pub enum Row {
     /// Something may be included by this name in this state.
     Entering(String, Html),
     /// What is included by this name in the first state may end in the second.
     Leaving(String, Html, Html),
+}
+
+// Not derived, so that each drop of one is a single call.
+impl Drop for Row {
+    fn drop(self) {
+        match self {
+            Row::Entering(_, _) => {}
+            Row::Leaving(_, _, _) => {}
+        }
+    }
 }
 
 /// A table: its rows, each once.

@@ -1,6 +1,7 @@
 //! Whether two states are one.
 
-ghost use Rattle.std.specs.Prelude.{◌≡◌};
+ghost use Rattle.std.specs.Prelude.{◌≡◌, ◌&&◌};
+ghost use Rattle.std.specs.Str.{bytes_eq};
 ghost use Rattle.handlebars_html.specs.Same as same;
 ghost use Rattle.handlebars_html.specs.HtmlView.{attributes_view, content_view, context_of, foreign_of, html_of, plain_of, tag_view, tokenizer_of, value_of};
 
@@ -16,13 +17,25 @@ fn is_same_bool(x: bool, y: bool) -> bool
     x == y
 }
 
+fn is_same_text(x: &Vec<u8>, y: &Vec<u8>) -> bool
+    ensures { result ≡ bytes_eq x.now.items y.now.items }
+{
+    x.as_slice() == y.as_slice()
+}
+
+fn is_same_name(x: bool, name: &Vec<u8>, y: bool, other: &Vec<u8>) -> bool
+    ensures { result ≡ (same.is_same_bool x y && bytes_eq name.now.items other.now.items) }
+{
+    is_same_bool(x, y) && is_same_text(name, other)
+}
+
 fn is_same_content(x: &Content, y: &Content) -> bool
     ensures { result ≡ same.is_same_content (content_view x.now) (content_view y.now) }
 {
     match (x, y) {
         (Content::Markup, Content::Markup) => true,
         (Content::InnerText(safe, name), Content::InnerText(other, text)) => {
-            is_same_bool(*safe, *other) && name.as_slice() == text.as_slice()
+            is_same_name(*safe, name, *other, text)
         }
         (Content::ScriptText, Content::ScriptText) => true,
         (Content::SvgBegins, Content::SvgBegins) => true,
@@ -42,8 +55,8 @@ fn is_same_value(x: &Value, y: &Value) -> bool
     match (x, y) {
         (Value::Harmless, Value::Harmless) => true,
         (Value::Forbidden, Value::Forbidden) => true,
-        (Value::Followed(text), Value::Followed(other)) => text.as_slice() == other.as_slice(),
-        (Value::Loaded(text), Value::Loaded(other)) => text.as_slice() == other.as_slice(),
+        (Value::Followed(text), Value::Followed(other)) => is_same_text(text, other),
+        (Value::Loaded(text), Value::Loaded(other)) => is_same_text(text, other),
         (Value::LoadedSlash, Value::LoadedSlash) => true,
         (Value::LoadedAuthority, Value::LoadedAuthority) => true,
         (Value::LoadedHost, Value::LoadedHost) => true,
@@ -70,6 +83,24 @@ fn is_same_tag(x: &Tag, y: &Tag) -> bool
     ensures { result ≡ same.is_same_tag (tag_view x.now) (tag_view y.now) }
 {
     is_same_content(&x.content, &y.content) && is_same_attributes(x.attributes, y.attributes)
+}
+
+fn is_same_attribute(x: &Tag, name: &Vec<u8>, y: &Tag, other: &Vec<u8>) -> bool
+    ensures { result ≡ (same.is_same_tag (tag_view x.now) (tag_view y.now) && bytes_eq name.now.items other.now.items) }
+{
+    is_same_tag(x, y) && is_same_text(name, other)
+}
+
+fn is_same_unquoted(x: &Tag, value: &Value, y: &Tag, other: &Value) -> bool
+    ensures { result ≡ (same.is_same_tag (tag_view x.now) (tag_view y.now) && same.is_same_value (value_of value.now) (value_of other.now)) }
+{
+    is_same_tag(x, y) && is_same_value(value, other)
+}
+
+fn is_same_url(double: bool, x: &Tag, two: bool, y: &Tag) -> bool
+    ensures { result ≡ (same.is_same_bool double two && same.is_same_tag (tag_view x.now) (tag_view y.now)) }
+{
+    is_same_bool(double, two) && is_same_tag(x, y)
 }
 
 fn is_same_plain(x: Plain, y: Plain) -> bool
@@ -108,8 +139,7 @@ fn is_same_tokenizer(x: &Tokenizer, y: &Tokenizer) -> bool
             _ => false,
         },
         Tokenizer::TagName(ends, name) => match y {
-            Tokenizer::TagName(other, text) => is_same_bool(*ends, *other)
-                && name.as_slice() == text.as_slice(),
+            Tokenizer::TagName(other, text) => is_same_name(*ends, name, *other, text),
             _ => false,
         },
         Tokenizer::BeforeAttribute(tag) => match y {
@@ -117,27 +147,24 @@ fn is_same_tokenizer(x: &Tokenizer, y: &Tokenizer) -> bool
             _ => false,
         },
         Tokenizer::AttributeName(tag, name) => match y {
-            Tokenizer::AttributeName(other, text) => is_same_tag(tag, other)
-                && name.as_slice() == text.as_slice(),
+            Tokenizer::AttributeName(other, text) => is_same_attribute(tag, name, other, text),
             _ => false,
         },
         Tokenizer::AfterAttribute(tag, name) => match y {
-            Tokenizer::AfterAttribute(other, text) => is_same_tag(tag, other)
-                && name.as_slice() == text.as_slice(),
+            Tokenizer::AfterAttribute(other, text) => is_same_attribute(tag, name, other, text),
             _ => false,
         },
         Tokenizer::BeforeValue(tag, value) => match y {
-            Tokenizer::BeforeValue(other, held) => is_same_tag(tag, other)
-                && is_same_value(value, held),
+            Tokenizer::BeforeValue(other, held) => is_same_unquoted(tag, value, other, held),
             _ => false,
         },
         Tokenizer::Quoted(double, tag, value) => match y {
             Tokenizer::Quoted(two, other, held) => is_same_bool(*double, *two)
-                && (is_same_tag(tag, other) && is_same_value(value, held)),
+                && is_same_unquoted(tag, value, other, held),
             _ => false,
         },
         Tokenizer::InUrl(double, tag) => match y {
-            Tokenizer::InUrl(two, other) => is_same_bool(*double, *two) && is_same_tag(tag, other),
+            Tokenizer::InUrl(two, other) => is_same_url(*double, tag, *two, other),
             _ => false,
         },
         Tokenizer::Unquoted(tag) => match y {
@@ -145,21 +172,19 @@ fn is_same_tokenizer(x: &Tokenizer, y: &Tokenizer) -> bool
             _ => false,
         },
         Tokenizer::InText(safe, name) => match y {
-            Tokenizer::InText(other, text) => is_same_bool(*safe, *other)
-                && name.as_slice() == text.as_slice(),
+            Tokenizer::InText(other, text) => is_same_name(*safe, name, *other, text),
             _ => false,
         },
         Tokenizer::TextTagOpen(safe, name) => match y {
-            Tokenizer::TextTagOpen(other, text) => is_same_bool(*safe, *other)
-                && name.as_slice() == text.as_slice(),
+            Tokenizer::TextTagOpen(other, text) => is_same_name(*safe, name, *other, text),
             _ => false,
         },
         Tokenizer::TextEndName(rest) => match y {
-            Tokenizer::TextEndName(text) => rest.as_slice() == text.as_slice(),
+            Tokenizer::TextEndName(text) => is_same_text(rest, text),
             _ => false,
         },
         Tokenizer::ScriptEndName(rest) => match y {
-            Tokenizer::ScriptEndName(text) => rest.as_slice() == text.as_slice(),
+            Tokenizer::ScriptEndName(text) => is_same_text(rest, text),
             _ => false,
         },
     }

@@ -100,9 +100,9 @@ fn search(checked: Checked<'_>) -> Result<Verdict, Stop>
         explore(checked, &names, &mut table, &mut work)?;
         let found = round(checked, &table)?;
         if found.rows.is_empty() {
-            return Ok(verdict_by(found.faults));
+            return Ok(verdict_by(found.into_faults()));
         }
-        add_rows(found.rows, PAGES, &mut table, &mut work)?;
+        add_rows(found.into_rows(), PAGES, &mut table, &mut work)?;
     }
     Err(Stop::TooManyStates)
 }

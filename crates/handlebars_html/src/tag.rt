@@ -44,10 +44,33 @@ pub enum Attributes {
 }
 
 /// What a tag says, by the name of its element and by the attributes that are read.
-#[derive(Debug, Drop)]
+#[derive(Debug)]
 pub struct Tag {
     pub content: Content,
     pub attributes: Attributes,
+}
+
+// Not derived, so that each drop of one is a single call.
+impl Drop for Tag {
+    fn drop(self) {
+        let Tag {
+            content: _,
+            attributes: _,
+        } = self;
+    }
+}
+
+impl Tag {
+    /// Returns what follows the `>`.
+    pub fn into_content(self) -> Content
+        ensures { result ≡ self.content }
+    {
+        let Tag {
+            content,
+            attributes: _,
+        } = self;
+        content
+    }
 }
 
 fn content_of(name: Vec<u8>) -> Content

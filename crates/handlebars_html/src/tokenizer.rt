@@ -138,7 +138,7 @@ fn step_attribute(tag: Tag, byte: u8, alloc: Global) -> Result<Tokenizer, AllocE
     }
 }
 
-fn begin_value(tag: Tag, name: &[u8], alloc: Global) -> Tokenizer
+fn begin_value(mut tag: Tag, name: &[u8], alloc: Global) -> Tokenizer
     ensures { tokenizer_of result ≡ tokenizer.begin_value (tag_view tag) name.now }
 {
     let attributes = tag.attributes;
@@ -146,10 +146,7 @@ fn begin_value(tag: Tag, name: &[u8], alloc: Global) -> Tokenizer
         return Tokenizer::Plain(Plain::Late);
     }
     let value = first_value(attributes, name, alloc);
-    let tag = Tag {
-        content: tag.content,
-        attributes: beside(attributes, name),
-    };
+    tag.attributes = beside(attributes, name);
     Tokenizer::BeforeValue(tag, value)
 }
 

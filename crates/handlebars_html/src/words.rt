@@ -176,48 +176,74 @@ impl HtmlFaultReason {
     }
 }
 
+// Writes where something stands, between these words.
+fn write_place<W: fmt::Write>(
+    f: &mut fmt::Formatter<W>,
+    before: &str,
+    state: &Html,
+    after: &str,
+) -> fmt::Result {
+    write!(f, "{before} {}{after}", place_of(state))
+}
+
+fn write_iteration<W: fmt::Write>(
+    f: &mut fmt::Formatter<W>,
+    start: &Html,
+    end: &Html,
+) -> fmt::Result {
+    write_place(f, "an iteration begins", start, ",")?;
+    write_place(f, " and ends", end, "")
+}
+
+// Writes a name between these words.
+fn write_name<W: fmt::Write>(
+    f: &mut fmt::Formatter<W>,
+    before: &str,
+    name: &String,
+    after: &str,
+) -> fmt::Result {
+    write!(f, "{before} {name:?} {after}")
+}
+
+fn write_misplaced<W: fmt::Write>(f: &mut fmt::Formatter<W>, name: &String) -> fmt::Result {
+    write_name(
+        f,
+        "what is registered under",
+        name,
+        "is not what a new registry has there",
+    )
+}
+
 /// Formats the reason in words for the author of a template.
 impl fmt::Display for HtmlFaultReason {
     fn fmt<W: fmt::Write>(&self, f: &mut fmt::Formatter<W>) -> fmt::Result {
         match self {
-            HtmlFaultReason::UnsafeValue(state) => write!(f, "a value stands {}", place_of(state)),
+            HtmlFaultReason::UnsafeValue(state) => write_place(f, "a value stands", state, ""),
             HtmlFaultReason::UnreadValue => f.write_str(
                 "a value stands after a text of which nothing more is known",
             ),
             HtmlFaultReason::UnescapedValue => f.write_str(
                 "an html expression writes its value unescaped",
             ),
-            HtmlFaultReason::ChangedText(state) => {
-                write!(
-                    f,
-                    "a text stands {}, where a blank before it changes what it means",
-                    place_of(state)
-                )
-            }
+            HtmlFaultReason::ChangedText(state) => write_place(
+                f,
+                "a text stands",
+                state,
+                ", where a blank before it changes what it means",
+            ),
             HtmlFaultReason::LateAttribute => f.write_str(
                 "`http-equiv` stands after `content`, which may hold data",
             ),
             HtmlFaultReason::ChangedAddress => f.write_str(
                 "a text goes on with an address that a value has written, and may make a scheme of it",
             ),
-            HtmlFaultReason::ChangedByIteration(start, end) => {
-                write!(
-                    f,
-                    "an iteration begins {}, and ends {}",
-                    place_of(start),
-                    place_of(end)
-                )
+            HtmlFaultReason::ChangedByIteration(start, end) => write_iteration(f, start, end),
+            HtmlFaultReason::ChangedByBlock(end) => {
+                write_place(f, "the block of a partial call ends", end, "")
             }
-            HtmlFaultReason::ChangedByBlock(end) => write!(
-                f,
-                "the block of a partial call ends {}",
-                place_of(end)
-            ),
-            HtmlFaultReason::CapturedTextIn(state) => write!(
-                f,
-                "`@partial-block` is included {}",
-                place_of(state)
-            ),
+            HtmlFaultReason::CapturedTextIn(state) => {
+                write_place(f, "`@partial-block` is included", state, "")
+            }
             HtmlFaultReason::MadeInclusion => f.write_str(
                 "a call in parentheses makes the name of a partial",
             ),
@@ -229,19 +255,12 @@ impl fmt::Display for HtmlFaultReason {
             ),
             HtmlFaultReason::ExpressionBodies => f.write_str("an expression has bodies"),
             HtmlFaultReason::OtherEscape => f.write_str("values are not escaped for html"),
-            HtmlFaultReason::HelperWithSteps(name) => write!(
-                f,
-                "the helper {name:?} may write more than its value"
-            ),
-            HtmlFaultReason::MisplacedHelper(name) => write!(
-                f,
-                "what is registered under {name:?} is not what a new registry has there"
-            ),
-            HtmlFaultReason::UserHook(name) => write!(f, "the hook {name:?} is user-defined"),
-            HtmlFaultReason::UserDecorator(name) => write!(
-                f,
-                "what is registered under {name:?} is not what a new registry has there"
-            ),
+            HtmlFaultReason::HelperWithSteps(name) => {
+                write_name(f, "the helper", name, "may write more than its value")
+            }
+            HtmlFaultReason::MisplacedHelper(name) => write_misplaced(f, name),
+            HtmlFaultReason::UserHook(name) => write_name(f, "the hook", name, "is user-defined"),
+            HtmlFaultReason::UserDecorator(name) => write_misplaced(f, name),
         }
     }
 }

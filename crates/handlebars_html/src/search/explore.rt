@@ -123,7 +123,7 @@ pub fn explore(
         };
         let found = read_next(checked, names, next, table, work)?;
         work.note(next, &found)?;
-        add_rows(found.rows, next, table, work)?;
+        add_rows(found.into_rows(), next, table, work)?;
     }
     Err(Stop::TooManyStates)
 }

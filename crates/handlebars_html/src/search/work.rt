@@ -7,7 +7,7 @@ use std::alloc::{AllocError, Global};
 pub const PAGES: usize = 0;
 
 /// What is to be read, the last first, and what is to be read again if more is known of a row.
-#[derive(Debug, Drop)]
+#[derive(Debug)]
 pub struct Work {
     alloc: Global,
     stack: Vec<usize>,
@@ -17,6 +17,19 @@ pub struct Work {
     readers: Vec<Vec<usize>>,
     // In what inline partials stand: it is read again if one of them may be included elsewhere.
     with_inlines: Vec<usize>,
+}
+
+// Not derived, so that each drop of one is a single call.
+impl Drop for Work {
+    fn drop(self) {
+        let Work {
+            alloc: _,
+            stack: _,
+            is_waiting: _,
+            readers: _,
+            with_inlines: _,
+        } = self;
+    }
 }
 
 impl Work {

@@ -15,7 +15,7 @@ returns-then-is_empty c =
     let none = nil_from_length found.rows.items
     (none-there c.is_empty.result found.rows.len (length found.rows.items) c.is_empty.ensures c.if-is_empty.true
     found.rows.ok.0) in
-    subst (λ (z : search.Verdict). IsVerdictAt c.args.checked z) (sym c.verdict_by.ensures)
+    subst (λ (z : search.Verdict). IsVerdictAt c.args.checked z) (sym (rw c.into_faults.ensures at c.verdict_by.ensures))
     (found-decides (user_at c.args.checked) (templates_at c.args.checked) (pages_at c.args.checked)
     (rows_of c.explore.new.table) found (c.in_ok-explore.ensures c.rounds.invariant) c.in_ok-found.ensures
     (ap (λ (zs : List Row). map row_of zs) none))
@@ -28,6 +28,7 @@ rounds-preserved c =
     let table = rows_of c.explore.new.table in
     let found = c.in_ok-found.found in
     let needed = c.in_ok-explore.ensures c.rounds.invariant in
-    subst (λ (zs : List rows.Row). AreNeededAt c.args.checked zs) (sym c.in_ok-add_rows.ensures)
+    subst (λ (zs : List rows.Row). AreNeededAt c.args.checked zs)
+    (sym (rw c.into_rows.ensures at c.in_ok-add_rows.ensures))
     (needed-with u templates pages table (map row_of found.rows.items) needed
     (needed-found u templates pages table found needed c.in_ok-found.ensures))
