@@ -2,11 +2,11 @@
 use Rattle.std.specs.Prelude.{if◌then◌else◌, List, [], ◌∷◌, Option, option_map}
 use Rattle.handlebars_base.specs.Bytes.{Text}
 use Rattle.handlebars_template.specs.Position.{Position}
-use Rattle.handlebars_template.specs.Tree.{Tree, Element, Call, Bodies, Body, Decorator, decorator_args, decorator_body}
+use Rattle.handlebars_template.specs.Tree.{Tree, Element, Call, Bodies, Body, Decorator, decorator_args, decorator_body, decorator_marks}
 use Rattle.handlebars_template.specs.TreeView.{position_of}
 use Rattle.handlebars_html.specs.Html.{Html, beginning}
 use Rattle.handlebars_html.specs.Rule.{Registered, Effect, inline_name}
-use Rattle.handlebars_html.specs.Rows.{Row}
+use Rattle.handlebars_html.specs.Rows.{Row, without_state}
 use Rattle.handlebars_html.specs.Check as check
 use Rattle.handlebars_html.specs.Registry.{registered_in}
 use Rattle.handlebars_html.specs.RowsView.{rows_of}
@@ -67,6 +67,12 @@ module _ (r : Reading) where
         findings = check.both_findings x.findings
             (check.findings_at registered_at rows_at name_at position_at (check.whys_of_captured x.states));
       }
+
+  -- an inclusion, with its name, if that is written
+  abbrev pub named_inclusion_at : Decorator → Option Text → List Html → check.Ends
+  named_inclusion_at t n hs =
+      check.inclusion_parts registered_at rows_at name_at position_at n (decorator_marks t) hs
+      (own_ends_at (decorator_body t) (beginning ∷ [])) (own_ends_at (decorator_body t) (without_state hs beginning))
 
   -- an inline partial, where something is included by a name in a state
   abbrev pub inline_at : Decorator → Text → Html → check.Ends

@@ -2,15 +2,16 @@
 
 ghost use Rattle.std.specs.Prelude.{◌∷◌, [], OnOk, map};
 ghost use Rattle.handlebars_html.specs.Check as check;
-ghost use Rattle.handlebars_html.specs.Faults.{changed_by_iteration};
+ghost use Rattle.handlebars_html.specs.Faults.{changed_by_block, changed_by_iteration};
 ghost use Rattle.handlebars_html.specs.FoundView.{AddsFaults};
 ghost use Rattle.handlebars_html.specs.HtmlView.{html_of};
 
 use crate::copies::copy_html;
 use crate::fault::HtmlFaultReason;
 use crate::found::{Found, Location, push_reason};
-use crate::html::{Html, beginning};
-use crate::same::is_same;
+use crate::html::Html;
+use crate::same::{is_beginning, is_same};
+use crate::stop::Stop;
 use std::alloc::{AllocError, Global};
 
 fn push_iteration(
@@ -39,7 +40,7 @@ pub fn check_iterations(
     state: &Html,
     ends: &[Html],
     found: &mut Found,
-) -> Result<(), AllocError>
+) -> Result<(), Stop>
     ensures { OnOk result (AddsFaults found.old found.new location.entry
         (check.whys_of_iterations (html_of state.now) (map html_of ends.now))) }
 {
@@ -49,6 +50,18 @@ pub fn check_iterations(
         }
     }
     Ok(())
+}
+
+fn push_captured(
+    alloc: Global,
+    location: Location<'_>,
+    end: &Html,
+    found: &mut Found,
+) -> Result<(), AllocError>
+    ensures { OnOk result (AddsFaults found.old found.new location.entry (changed_by_block (html_of end.now) ∷ [])) }
+{
+    let reason = HtmlFaultReason::ChangedByBlock(copy_html(end)?);
+    push_reason(alloc, location, reason, found)
 }
 
 /// Adds a fault for each of these ends of a block that is not the state in which captured text begins.
@@ -65,11 +78,9 @@ pub fn check_captured(
     ensures { OnOk result (AddsFaults found.old found.new location.entry
         (check.whys_of_captured (map html_of ends.now))) }
 {
-    let start = beginning();
     'ends: for end in ends {
-        if !is_same(end, &start) {
-            let reason = HtmlFaultReason::ChangedByBlock(copy_html(end)?);
-            push_reason(alloc, location, reason, found)?;
+        if !is_beginning(end) {
+            push_captured(alloc, location, end, found)?;
         }
     }
     Ok(())

@@ -18,7 +18,7 @@ use handlebars_template::template::{HelperTemplate, Parameter};
 use std::alloc::{AllocError, Global};
 
 /// What a block does.
-#[derive(Clone, Copy, Debug)]
+#[derive(Clone, Copy)]
 pub enum Effect {
     /// It renders its body or its inverse, one of them.
     OneBranch,
@@ -71,7 +71,7 @@ fn effect_of(kind: BuiltIn) -> Effect
 }
 
 /// What is registered under a name.
-#[derive(Clone, Copy, Debug)]
+#[derive(Clone, Copy)]
 pub enum Registered {
     /// What every registry begins with.
     AsFirst,

@@ -183,8 +183,9 @@ fn has_fault(faults: &[HtmlFault], fault: &HtmlFault) -> bool
 pub fn add_fault(faults: &mut Vec<HtmlFault>, fault: HtmlFault) -> Result<(), AllocError>
     ensures { OnOk result (map fault_of faults.new.items ≡ definitions.with_fault (map fault_of faults.old.items) (fault_of fault)) }
 {
-    if !has_fault(faults, &fault) {
-        faults.push(fault)?;
+    if has_fault(faults, &fault) {
+        return Ok(());
     }
+    faults.push(fault)?;
     Ok(())
 }

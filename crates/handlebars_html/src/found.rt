@@ -23,7 +23,6 @@ const MOST_PAIRS: usize = 1 << 22;
 
 /// What was found so far: rows that a table lacks, and what breaks the rule, each fault once. Beside it stands what decides in
 /// which order a search goes on, and when it ends.
-#[derive(Debug)]
 pub struct Found {
     pub rows: Vec<Row>,
     pub faults: Vec<HtmlFault>,
@@ -88,8 +87,7 @@ impl Found {
         ensures { OnOk result (found_of self.new ≡ check.both_findings (found_of self.old) (found_of part)) }
     {
         self.rows.append(&mut part.rows)?;
-        self.faults.append(&mut part.faults)?;
-        Ok(())
+        self.faults.append(&mut part.faults)
     }
 
     /// Returns the rows alone.
@@ -186,10 +184,10 @@ fn check_value(
 ) -> Result<(), AllocError>
     ensures { OnOk result (AddsFaults found.old found.new location.entry (check.whys_of_value (html_of state.now))) }
 {
-    if !is_safe(state) {
-        push_reason(alloc, location, reason_of_unsafe(state)?, found)?;
+    if is_safe(state) {
+        return Ok(());
     }
-    Ok(())
+    push_reason(alloc, location, reason_of_unsafe(state)?, found)
 }
 
 /// Adds a fault for each of these states in which data may not stand.
@@ -220,10 +218,10 @@ fn check_url(
 ) -> Result<(), AllocError>
     ensures { OnOk result (AddsFaults found.old found.new location.entry (check.whys_of_url (html_of state.now))) }
 {
-    if !may_hold_url(state) {
-        push_reason(alloc, location, reason_of_unsafe(state)?, found)?;
+    if may_hold_url(state) {
+        return Ok(());
     }
-    Ok(())
+    push_reason(alloc, location, reason_of_unsafe(state)?, found)
 }
 
 /// Adds a fault for each of these states in which an address that runs no script may not stand.

@@ -23,8 +23,9 @@ use crate::found::{Found, Location, push_reason};
 use crate::html::{Html, beginning};
 use crate::reading::Reading;
 use crate::rows::Row;
-use crate::same::is_same;
+use crate::same::is_beginning;
 use crate::states::{add_states, copy_states, is_among};
+use crate::stop::Stop;
 use handlebars_template::template::{DecoratorTemplate, Parameter};
 use serde_json::Value;
 use std::alloc::{AllocError, Global};
@@ -74,6 +75,18 @@ pub fn may_name(written: Option<&str>, name: &str) -> bool
     }
 }
 
+fn push_captured_text(
+    alloc: Global,
+    location: Location<'_>,
+    state: &Html,
+    found: &mut Found,
+) -> Result<(), AllocError>
+    ensures { OnOk result (AddsFaults found.old found.new location.entry (captured_text_in (html_of state.now) ∷ [])) }
+{
+    let reason = HtmlFaultReason::CapturedTextIn(copy_html(state)?);
+    push_reason(alloc, location, reason, found)
+}
+
 fn check_captured_text(
     alloc: Global,
     location: Location<'_>,
@@ -83,11 +96,9 @@ fn check_captured_text(
     ensures { OnOk result (AddsFaults found.old found.new location.entry
         (flat_map (λ h. unless (same.is_same h html.beginning) (captured_text_in h)) (map html_of states.now))) }
 {
-    let start = beginning();
     'states: for state in states {
-        if !is_same(state, &start) {
-            let reason = HtmlFaultReason::CapturedTextIn(copy_html(state)?);
-            push_reason(alloc, location, reason, found)?;
+        if !is_beginning(state) {
+            push_captured_text(alloc, location, state, found)?;
         }
     }
     Ok(())
@@ -153,10 +164,10 @@ fn check_indent(
     ensures { OnOk result (AddsFaults found.old found.new location.entry
         (unless (list_all html.is_blank (unwrap_or (option_map string_bytes indent.now) [])) other_indent)) }
 {
-    if !is_indent(indent) {
-        push_reason(alloc, location, HtmlFaultReason::OtherIndent, found)?;
+    if is_indent(indent) {
+        return Ok(());
     }
-    Ok(())
+    push_reason(alloc, location, HtmlFaultReason::OtherIndent, found)
 }
 
 /// Adds what is wrong with the indentation of an inclusion, and then with its name in these states.
@@ -211,7 +222,7 @@ fn named_ends(
     reading: Reading<'_>,
     states: &[Html],
     found: &mut Found,
-) -> Result<Vec<Html>, AllocError>
+) -> Result<Vec<Html>, Stop>
     ensures { IfOk result (λ gs. EndsIn (rows_at reading.entry) found.old found.new gs.items (record {
       states = table.with_states [] (flat_map (table.leaving_states (rows_at reading.entry) name.now) (map html_of states.now));
       findings = check.found_rows (map (λ h. table.entering name.now h) (map html_of states.now));
@@ -230,7 +241,7 @@ fn written_ends(
     reading: Reading<'_>,
     states: &[Html],
     found: &mut Found,
-) -> Result<Vec<Html>, AllocError>
+) -> Result<Vec<Html>, Stop>
     ensures { IfOk result (λ gs. EndsIn (rows_at reading.entry) found.old found.new gs.items
         (check.included_ends (rows_at reading.entry) (Some name.now) (map html_of states.now))) }
 {
@@ -251,7 +262,7 @@ pub fn included_ends(
     reading: Reading<'_>,
     states: &[Html],
     found: &mut Found,
-) -> Result<Vec<Html>, AllocError>
+) -> Result<Vec<Html>, Stop>
     ensures { IfOk result (λ gs. EndsIn (rows_at reading.entry) found.old found.new gs.items
         (check.included_ends (rows_at reading.entry) (option_map string_bytes name.now) (map html_of states.now))) }
 {
@@ -272,12 +283,13 @@ fn add_leaving(
     ensures { OnOk result (AddsFindings (rows_at reading.entry) found.old found.new
         (check.found_rows (table.leaving name.now (html_of state.now) (html_of end.now) ∷ []))) }
 {
-    if !reading.table.has_leaving(name, state, end) {
-        let from = copy_html(state)?;
-        let to = copy_html(end)?;
-        let name = String::from_str(reading.alloc, name)?;
-        found.rows.push(Row::Leaving(name, from, to))?;
+    if reading.table.has_leaving(name, state, end) {
+        return Ok(());
     }
+    let from = copy_html(state)?;
+    let to = copy_html(end)?;
+    let name = String::from_str(reading.alloc, name)?;
+    found.rows.push(Row::Leaving(name, from, to))?;
     Ok(())
 }
 
@@ -292,7 +304,7 @@ pub fn add_leavings(
     state: &Html,
     ends: &[Html],
     found: &mut Found,
-) -> Result<(), AllocError>
+) -> Result<(), Stop>
     ensures { OnOk result (AddsFindings (rows_at reading.entry) found.old found.new
         (check.found_rows (table.leavings name.now (html_of state.now) (map html_of ends.now)))) }
 {
@@ -313,7 +325,7 @@ pub fn all_ends(
     mut ahead: Vec<Html>,
     other: &[Html],
     states: &[Html],
-) -> Result<Vec<Html>, AllocError>
+) -> Result<Vec<Html>, Stop>
     ensures { IfOk result (λ gs. map html_of gs.items ≡ table.with_states (map html_of named.items)
         (table.with_states (if table.is_among (map html_of states.now) html.beginning then map html_of ahead.items else [])
         (map html_of other.now))) }

@@ -264,58 +264,64 @@ pub fn is_loaded_scheme(text: &[u8]) -> bool
     is_one_of(&["http", "https"], text)
 }
 
+fn is_name(written: &str, name: &[u8]) -> bool
+    ensures { result ≡ bytes_eq written.now name.now }
+{
+    written.as_bytes() == name
+}
+
 /// Returns whether the name is `script`.
 pub fn is_script(name: &[u8]) -> bool
     ensures { result ≡ bytes_eq (codes "script") name.now }
 {
-    "script".as_bytes() == name
+    is_name("script", name)
 }
 
 /// Returns whether the name is `svg`.
 pub fn is_svg(name: &[u8]) -> bool
     ensures { result ≡ bytes_eq (codes "svg") name.now }
 {
-    "svg".as_bytes() == name
+    is_name("svg", name)
 }
 
 /// Returns whether the name is `noscript`.
 pub fn is_noscript(name: &[u8]) -> bool
     ensures { result ≡ bytes_eq (codes "noscript") name.now }
 {
-    "noscript".as_bytes() == name
+    is_name("noscript", name)
 }
 
 /// Returns whether the name is `plaintext`.
 pub fn is_plaintext(name: &[u8]) -> bool
     ensures { result ≡ bytes_eq (codes "plaintext") name.now }
 {
-    "plaintext".as_bytes() == name
+    is_name("plaintext", name)
 }
 
 /// Returns whether the name is `meta`.
 pub fn is_meta(name: &[u8]) -> bool
     ensures { result ≡ bytes_eq (codes "meta") name.now }
 {
-    "meta".as_bytes() == name
+    is_name("meta", name)
 }
 
 /// Returns whether the name is `rel`.
 pub fn is_rel(name: &[u8]) -> bool
     ensures { result ≡ bytes_eq (codes "rel") name.now }
 {
-    "rel".as_bytes() == name
+    is_name("rel", name)
 }
 
 /// Returns whether the name is `content`.
 pub fn is_content(name: &[u8]) -> bool
     ensures { result ≡ bytes_eq (codes "content") name.now }
 {
-    "content".as_bytes() == name
+    is_name("content", name)
 }
 
 /// Returns whether the name is `http-equiv`.
 pub fn is_http_equiv(name: &[u8]) -> bool
     ensures { result ≡ bytes_eq (codes "http-equiv") name.now }
 {
-    "http-equiv".as_bytes() == name
+    is_name("http-equiv", name)
 }

@@ -120,10 +120,11 @@ fn is_first_decorator<E: UserParts>(entries: &E, name: &str) -> bool
     ensures yes { OnTrue result ((E.registered entries.now).decorator name.now ≡ built_in_decorator name.now) }
     ensures no { OnFalse result ((E.registered entries.now).decorator name.now ≢ built_in_decorator name.now) }
 {
+    let is_inline = name == "inline";
     match entries.decorator(name) {
-        Some(DecoratorKind::Inline) => name == "inline",
+        Some(DecoratorKind::Inline) => is_inline,
         Some(DecoratorKind::User) => false,
-        None => !(name == "inline"),
+        None => !is_inline,
     }
 }
 

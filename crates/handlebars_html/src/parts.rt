@@ -48,10 +48,10 @@ fn is_hook(name: &str) -> bool
 fn check_hook(name: &String, faults: &mut Vec<HtmlFault>) -> Result<(), AllocError>
     ensures { OnOk result (AppendsFaults faults.old.items faults.new.items (registry.whys_of_hook (string_bytes name.now))) }
 {
-    if is_hook(name.as_str()) {
-        push_fault(faults, HtmlFaultReason::UserHook(name.clone()?))?;
+    if !is_hook(name.as_str()) {
+        return Ok(());
     }
-    Ok(())
+    push_fault(faults, HtmlFaultReason::UserHook(name.clone()?))
 }
 
 fn check_helper(helper: &OtherHelper, faults: &mut Vec<HtmlFault>) -> Result<(), AllocError>

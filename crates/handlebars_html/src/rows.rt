@@ -5,14 +5,12 @@ ghost use Rattle.handlebars_html.specs.HtmlView.{html_of};
 ghost use Rattle.handlebars_html.specs.Rows as table;
 ghost use Rattle.handlebars_html.specs.RowsView.{row_of, rows_of};
 
-use crate::copies::copy_html;
 use crate::html::Html;
 use crate::same::is_same;
-use crate::states::add_state;
+use crate::states::add_copy;
 use std::alloc::{AllocError, Global};
 
 /// A row of a table.
-#[derive(Debug)]
 pub enum Row {
     /// Something may be included by this name in this state.
     Entering(String, Html),
@@ -31,7 +29,7 @@ impl Drop for Row {
 }
 
 /// A table: its rows, each once.
-#[derive(Debug, Drop)]
+#[derive(Drop)]
 pub struct Table {
     rows: Vec<Row>,
 }
@@ -111,7 +109,7 @@ impl Table {
                 Row::Entering(_, _) => {}
                 Row::Leaving(other, at, there) => {
                     if is_at(other.as_str(), at, name, state) {
-                        add_state(ends, copy_html(there)?)?;
+                        add_copy(ends, there)?;
                     }
                 }
             }
@@ -137,9 +135,10 @@ impl Table {
         ensures ok { OnOk result (rows_of self.new ≡ table.with_row (rows_of self.old) (row_of row)) }
         ensures err { OnErr result (rows_of self.new ≡ rows_of self.old) }
     {
-        if !self.has_row(&row) {
-            self.rows.push(row)?;
+        if self.has_row(&row) {
+            return Ok(());
         }
+        self.rows.push(row)?;
         Ok(())
     }
 }

@@ -2,11 +2,12 @@
 
 ghost use Rattle.std.specs.Prelude.{◌≡◌, ◌&&◌};
 ghost use Rattle.std.specs.Str.{bytes_eq};
+ghost use Rattle.handlebars_html.specs.Html as html;
 ghost use Rattle.handlebars_html.specs.Same as same;
 ghost use Rattle.handlebars_html.specs.HtmlView.{attributes_view, content_view, context_of, foreign_of, html_of, plain_of, tag_view, tokenizer_of, value_of};
 
 use crate::address::Value;
-use crate::html::{Context, Foreign, Html};
+use crate::html::{Context, Foreign, Html, beginning};
 use crate::plain::Plain;
 use crate::tag::{Attributes, Content, Tag};
 use crate::tokenizer::Tokenizer;
@@ -212,4 +213,11 @@ pub fn is_same(x: &Html, y: &Html) -> bool
     ensures { result ≡ same.is_same (html_of x.now) (html_of y.now) }
 {
     is_same_context(x.context, y.context) && is_same_tokenizer(&x.tokenizer, &y.tokenizer)
+}
+
+/// Returns whether the state is that in which a document begins.
+pub fn is_beginning(state: &Html) -> bool
+    ensures { result ≡ same.is_same (html_of state.now) html.beginning }
+{
+    is_same(state, &beginning())
 }

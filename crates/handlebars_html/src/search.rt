@@ -1,9 +1,9 @@
 //! The search for a table by which pages keep the rule of data, and what it says.
 
 ghost use Rattle.std.specs.Prelude.{◌≡◌, IfOk, map};
-ghost use Rattle.handlebars_html.specs.RowsView.{fault_of};
+ghost use Rattle.handlebars_html.specs.RowsView.{fault_of, rows_of};
 ghost use Rattle.handlebars_html.specs.Search as search;
-ghost use Rattle.handlebars_html.specs.SearchView.{IsVerdictAt, verdict_of};
+ghost use Rattle.handlebars_html.specs.SearchView.{AreNeededAt, IsVerdictAt, verdict_of};
 
 mod explore;
 mod names;
@@ -96,13 +96,25 @@ fn search(checked: Checked<'_>) -> Result<Verdict, Stop>
     let mut table = Table::new(checked.alloc);
     let mut work = Work::new(checked.alloc);
     work.add(PAGES)?;
+    search_rounds(checked, &names, &mut table, &mut work)
+}
+
+// Searches on from a table with no rows but those that are needed.
+fn search_rounds(
+    checked: Checked<'_>,
+    names: &Names,
+    table: &mut Table,
+    work: &mut Work,
+) -> Result<Verdict, Stop>
+    ensures { AreNeededAt checked.entry (rows_of table.old) → IfOk result (λ v. IsVerdictAt checked.entry (verdict_of v)) }
+{
     'rounds: for _ in 0..MOST_ROUNDS {
-        explore(checked, &names, &mut table, &mut work)?;
-        let found = round(checked, &table)?;
+        explore(checked, names, table, work)?;
+        let found = round(checked, table)?;
         if found.rows.is_empty() {
             return Ok(verdict_by(found.into_faults()));
         }
-        add_rows(found.into_rows(), PAGES, &mut table, &mut work)?;
+        add_rows(found.into_rows(), PAGES, table, work)?;
     }
     Err(Stop::TooManyStates)
 }

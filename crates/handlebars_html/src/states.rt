@@ -1,13 +1,14 @@
 //! Lists of states without duplicates.
 
-ghost use Rattle.std.specs.Prelude.{◌≡◌, ◌∷◌, [], IfOk, OnOk, map};
+ghost use Rattle.std.specs.Prelude.{◌≡◌, ◌∷◌, ◌++◌, [], IfOk, OnOk, map};
 ghost use Rattle.handlebars_html.specs.Html as html;
 ghost use Rattle.handlebars_html.specs.HtmlView.{html_of};
 ghost use Rattle.handlebars_html.specs.Rows as rows;
 
 use crate::copies::copy_html;
-use crate::html::{Html, after, after_data, after_url, beginning};
-use crate::same::is_same;
+use crate::html::{Html, after_data, after_url, beginning};
+use crate::same::{is_beginning, is_same};
+use crate::stop::Stop;
 use std::alloc::{AllocError, Global};
 
 /// Returns whether the state is one of these.
@@ -32,10 +33,32 @@ pub fn is_among(states: &[Html], state: &Html) -> bool
 pub fn add_state(states: &mut Vec<Html>, state: Html) -> Result<(), AllocError>
     ensures { OnOk result (map html_of states.new.items ≡ rows.with_state (map html_of states.old.items) (html_of state)) }
 {
-    if !is_among(states, &state) {
-        states.push(state)?;
+    if is_among(states, &state) {
+        return Ok(());
     }
+    states.push(state)?;
     Ok(())
+}
+
+fn push_copy(states: &mut Vec<Html>, state: &Html) -> Result<(), AllocError>
+    ensures { OnOk result (map html_of states.new.items ≡ map html_of states.old.items ++ html_of state.now ∷ []) }
+{
+    states.push(copy_html(state)?)?;
+    Ok(())
+}
+
+/// Adds a copy of a state at the end, unless it is among them.
+///
+/// # Errors
+///
+/// Fails if memory runs out.
+pub fn add_copy(states: &mut Vec<Html>, state: &Html) -> Result<(), AllocError>
+    ensures { OnOk result (map html_of states.new.items ≡ rows.with_state (map html_of states.old.items) (html_of state.now)) }
+{
+    if is_among(states, state) {
+        return Ok(());
+    }
+    push_copy(states, state)
 }
 
 /// Adds each of these states.
@@ -48,24 +71,9 @@ pub fn add_states(states: &mut Vec<Html>, others: &[Html]) -> Result<(), AllocEr
         ≡ rows.with_states (map html_of states.old.items) (map html_of others.now)) }
 {
     'others: for other in others {
-        add_state(states, copy_html(other)?)?;
+        add_copy(states, other)?;
     }
     Ok(())
-}
-
-/// Returns the states after a text, each once.
-///
-/// # Errors
-///
-/// Fails if memory runs out.
-pub fn states_after(states: &[Html], text: &[u8], alloc: Global) -> Result<Vec<Html>, AllocError>
-    ensures { IfOk result (λ gs. map html_of gs.items ≡ rows.each_state (λ h. html.after h text.now) (map html_of states.now)) }
-{
-    let mut ends = Vec::new(alloc);
-    'states: for state in states {
-        add_state(&mut ends, after(copy_html(state)?, text, alloc)?)?;
-    }
-    Ok(ends)
 }
 
 /// Returns what is known of the states after data, each once.
@@ -73,7 +81,7 @@ pub fn states_after(states: &[Html], text: &[u8], alloc: Global) -> Result<Vec<H
 /// # Errors
 ///
 /// Fails if memory runs out.
-pub fn states_after_data(states: &[Html], alloc: Global) -> Result<Vec<Html>, AllocError>
+pub fn states_after_data(states: &[Html], alloc: Global) -> Result<Vec<Html>, Stop>
     ensures { IfOk result (λ gs. map html_of gs.items ≡ rows.each_state html.after_data (map html_of states.now)) }
 {
     let mut ends = Vec::new(alloc);
@@ -88,7 +96,7 @@ pub fn states_after_data(states: &[Html], alloc: Global) -> Result<Vec<Html>, Al
 /// # Errors
 ///
 /// Fails if memory runs out.
-pub fn states_after_url(states: &[Html], alloc: Global) -> Result<Vec<Html>, AllocError>
+pub fn states_after_url(states: &[Html], alloc: Global) -> Result<Vec<Html>, Stop>
     ensures { IfOk result (λ gs. map html_of gs.items ≡ rows.each_state html.after_url (map html_of states.now)) }
 {
     let mut ends = Vec::new(alloc);
@@ -103,31 +111,14 @@ pub fn states_after_url(states: &[Html], alloc: Global) -> Result<Vec<Html>, All
 /// # Errors
 ///
 /// Fails if memory runs out.
-pub fn copy_states(states: &[Html], alloc: Global) -> Result<Vec<Html>, AllocError>
+pub fn copy_states(states: &[Html], alloc: Global) -> Result<Vec<Html>, Stop>
     ensures { IfOk result (λ gs. map html_of gs.items ≡ map html_of states.now) }
 {
     let mut copies = Vec::new(alloc);
     'states: for state in states {
-        copies.push(copy_html(state)?)?;
+        push_copy(&mut copies, state)?;
     }
     Ok(copies)
-}
-
-/// Returns copies of all states but this one.
-///
-/// # Errors
-///
-/// Fails if memory runs out.
-pub fn states_without(states: &[Html], other: &Html, alloc: Global) -> Result<Vec<Html>, AllocError>
-    ensures { IfOk result (λ gs. map html_of gs.items ≡ rows.without_state (map html_of states.now) (html_of other.now)) }
-{
-    let mut rest = Vec::new(alloc);
-    'states: for state in states {
-        if !is_same(state, other) {
-            rest.push(copy_html(state)?)?;
-        }
-    }
-    Ok(rest)
 }
 
 /// Returns this state alone.
@@ -139,7 +130,7 @@ pub fn one_state(state: &Html, alloc: Global) -> Result<Vec<Html>, AllocError>
     ensures { IfOk result (λ gs. map html_of gs.items ≡ html_of state.now ∷ []) }
 {
     let mut states = Vec::new(alloc);
-    states.push(copy_html(state)?)?;
+    push_copy(&mut states, state)?;
     Ok(states)
 }
 
@@ -162,5 +153,11 @@ pub fn only_beginning(alloc: Global) -> Result<Vec<Html>, AllocError>
 pub fn without_beginning(states: &[Html], alloc: Global) -> Result<Vec<Html>, AllocError>
     ensures { IfOk result (λ gs. map html_of gs.items ≡ rows.without_state (map html_of states.now) html.beginning) }
 {
-    states_without(states, &beginning(), alloc)
+    let mut rest = Vec::new(alloc);
+    'states: for state in states {
+        if !is_beginning(state) {
+            push_copy(&mut rest, state)?;
+        }
+    }
+    Ok(rest)
 }

@@ -1,6 +1,6 @@
 //! The states in which trees end, and what is found on the ways through them.
 
-ghost use Rattle.std.specs.Prelude.{◌≡◌, ◌∷◌, [], IfOk, OnOk, map};
+ghost use Rattle.std.specs.Prelude.{◌≡◌, ◌∷◌, [], IfOk, OnOk, map, option_map, string_bytes};
 ghost use Rattle.handlebars_template.specs.Tree.{call_bodies, call_body, call_inverse, decorator_args, decorator_body};
 ghost use Rattle.handlebars_template.specs.TreeView.{body_view, call_view, decorator_view, element_view, tree_view};
 ghost use Rattle.handlebars_html.specs.Check as check;
@@ -8,7 +8,8 @@ ghost use Rattle.handlebars_html.specs.EffectView.{effect_view};
 ghost use Rattle.handlebars_html.specs.FoundView.{AddsFindings, EndsIn};
 ghost use Rattle.handlebars_html.specs.Html.{beginning};
 ghost use Rattle.handlebars_html.specs.HtmlView.{html_of};
-ghost use Rattle.handlebars_html.specs.ReadingView.{block_ends_at, bodies_ends_at, branch_ends_at, captured_at, decorator_ends_at, element_ends_at, inclusion_ends_at, inline_at, iteration_at, own_ends_at, rows_at, tree_ends_at};
+ghost use Rattle.handlebars_html.specs.ReadingView.{block_ends_at, bodies_ends_at, branch_ends_at, captured_at, decorator_ends_at, element_ends_at, inclusion_ends_at, inline_at, iteration_at, named_inclusion_at, own_ends_at, rows_at, tree_ends_at};
+ghost use Rattle.handlebars_html.specs.Rows.{without_state};
 ghost use Rattle.handlebars_html.specs.RowsView.{row_of};
 
 use crate::blocks::{check_captured, check_iterations};
@@ -73,23 +74,23 @@ fn element_ends(
         (element_ends_at reading.entry (element_view element.now) (map html_of states.now))) }
 {
     match element {
-        TemplateElement::RawString(text) => Ok(text_ends(
+        TemplateElement::RawString(text) => text_ends(
             text.as_bytes(),
             reading.alloc,
             reading.location,
             states,
             found,
-        )?),
+        ),
         TemplateElement::HtmlExpression(_) => {
-            Ok(html_expression_ends(reading.alloc, reading.location, states, found)?)
+            html_expression_ends(reading.alloc, reading.location, states, found)
         }
-        TemplateElement::Expression(call) => Ok(expression_ends(call, reading, states, found)?),
+        TemplateElement::Expression(call) => expression_ends(call, reading, states, found),
         TemplateElement::HelperBlock(call) => block_ends(call, reading, states, found),
         TemplateElement::DecoratorExpression(tag) => decorator_ends(tag, reading, states, found),
         TemplateElement::DecoratorBlock(tag) => decorator_ends(tag, reading, states, found),
         TemplateElement::PartialExpression(tag) => inclusion_ends(tag, reading, states, found),
         TemplateElement::PartialBlock(tag) => inclusion_ends(tag, reading, states, found),
-        TemplateElement::Comment(_) => Ok(copy_states(states, reading.alloc)?),
+        TemplateElement::Comment(_) => copy_states(states, reading.alloc),
     }
 }
 
@@ -109,7 +110,7 @@ fn block_ends(
         None => {
             let reason = HtmlFaultReason::MadeBlock;
             push_reason(reading.alloc, reading.location, reason, found)?;
-            Ok(copy_states(states, reading.alloc)?)
+            copy_states(states, reading.alloc)
         }
         Some(effect) => bodies_ends(call, effect, reading, states, found),
     }
@@ -136,8 +137,8 @@ fn bodies_ends(
             let ends = copy_states(states, reading.alloc)?;
             inverse_ends(call, ends, reading, states, found)
         }
-        Effect::Value => Ok(value_ends(reading.alloc, reading.location, states, found)?),
-        Effect::NoOutput => Ok(copy_states(states, reading.alloc)?),
+        Effect::Value => value_ends(reading.alloc, reading.location, states, found),
+        Effect::NoOutput => copy_states(states, reading.alloc),
     }
 }
 
@@ -188,8 +189,7 @@ fn iterate_once(
 {
     let start = one_state(state, reading.alloc)?;
     let ends = branch_ends(&call.template, reading, &start, found)?;
-    check_iterations(reading.alloc, reading.location, state, &ends, found)?;
-    Ok(())
+    check_iterations(reading.alloc, reading.location, state, &ends, found)
 }
 
 #[cycle(tree)]
@@ -204,7 +204,7 @@ fn branch_ends(
 {
     match body {
         Some(template) => tree_ends(template, reading, states, found),
-        None => Ok(copy_states(states, reading.alloc)?),
+        None => copy_states(states, reading.alloc),
     }
 }
 
@@ -241,7 +241,7 @@ fn decorator_ends(
         read_inline(tag, reading, row, found)?;
     }
     found.has_inlines = true;
-    Ok(copy_states(states, reading.alloc)?)
+    copy_states(states, reading.alloc)
 }
 
 // Reads the body where its name is included by this row.
@@ -259,8 +259,7 @@ fn read_inline(
         Row::Entering(name, state) => if may_name(inline_name(&tag.params), name.as_str()) {
             let start = one_state(state, reading.alloc)?;
             let ends = own_ends(&tag.template, reading, &start, found)?;
-            add_leavings(name.as_str(), reading, state, &ends, found)?;
-            Ok(())
+            add_leavings(name.as_str(), reading, state, &ends, found)
         } else {
             Ok(())
         },
@@ -281,12 +280,41 @@ fn inclusion_ends(
         (inclusion_ends_at reading.entry (decorator_view tag.now) (map html_of states.now))) }
 {
     let name = written_name(&tag.name, reading.alloc)?;
-    check_inclusion(tag, reading, &name, states, found)?;
+    named_inclusion_ends(tag, &name, reading, states, found)
+}
+
+// The ends of an inclusion of this name.
+#[cycle(tree)]
+fn named_inclusion_ends(
+    tag: &DecoratorTemplate,
+    name: &Option<String>,
+    reading: Reading<'_>,
+    states: &[Html],
+    found: &mut Found,
+) -> Result<Vec<Html>, Stop>
+    ensures { IfOk result (λ gs. EndsIn (rows_at reading.entry) found.old found.new gs.items
+        (named_inclusion_at reading.entry (decorator_view tag.now) (option_map string_bytes name.now) (map html_of states.now))) }
+{
+    check_inclusion(tag, reading, name, states, found)?;
     let ahead = captured_ends(tag, reading, found)?;
-    let named = included_ends(&name, reading, states, found)?;
+    let named = included_ends(name, reading, states, found)?;
+    let other = other_ends(tag, reading, states, found)?;
+    all_ends(named, ahead, &other, states)
+}
+
+// The ends of the block of an inclusion in its place, where it isn't captured.
+#[cycle(tree)]
+fn other_ends(
+    tag: &DecoratorTemplate,
+    reading: Reading<'_>,
+    states: &[Html],
+    found: &mut Found,
+) -> Result<Vec<Html>, Stop>
+    ensures { IfOk result (λ gs. EndsIn (rows_at reading.entry) found.old found.new gs.items
+        (own_ends_at reading.entry (decorator_body (decorator_view tag.now)) (without_state (map html_of states.now) beginning))) }
+{
     let others = without_beginning(states, reading.alloc)?;
-    let other = own_ends(&tag.template, reading, &others, found)?;
-    Ok(all_ends(named, ahead, &other, states)?)
+    own_ends(&tag.template, reading, &others, found)
 }
 
 // The ends of the block of an inclusion as it is captured.

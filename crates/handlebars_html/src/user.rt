@@ -3,7 +3,7 @@
 use handlebars_helpers::escape::Escaping;
 
 /// What is registered under the name of a helper, where it isn't what every registry begins with.
-#[derive(Clone, Copy, Debug, PartialEq, Eq)]
+#[derive(Clone, Copy)]
 pub enum OtherKind {
     /// A user-defined helper that is known to give values alone, each of which is written as an address that runs no script.
     GivesUrls,
@@ -16,14 +16,14 @@ pub enum OtherKind {
 }
 
 /// A name under which another helper is registered than every registry begins with.
-#[derive(Debug, Drop)]
+#[derive(Drop)]
 pub struct OtherHelper {
     pub name: String,
     pub kind: OtherKind,
 }
 
 /// What differs in a registry from what every registry begins with, and how values are escaped.
-#[derive(Debug, Drop)]
+#[derive(Drop)]
 pub struct UserDefined {
     pub escape: Escaping,
     pub helpers: Vec<OtherHelper>,

@@ -18,6 +18,7 @@ use crate::found::{Found, Location, check_urls, check_values, push_reason};
 use crate::html::Html;
 use crate::reading::Reading;
 use crate::states::{states_after_data, states_after_url};
+use crate::stop::Stop;
 use handlebars_template::template::{HelperTemplate, Template};
 use std::alloc::{AllocError, Global};
 
@@ -31,7 +32,7 @@ pub fn value_ends(
     location: Location<'_>,
     states: &[Html],
     found: &mut Found,
-) -> Result<Vec<Html>, AllocError>
+) -> Result<Vec<Html>, Stop>
     ensures { IfOk result (λ gs. EndsWith found.old found.new gs.items
         (each_state after_data (map html_of states.now)) location.entry
         (flat_map check.whys_of_value (map html_of states.now))) }
@@ -51,7 +52,7 @@ pub fn url_ends(
     location: Location<'_>,
     states: &[Html],
     found: &mut Found,
-) -> Result<Vec<Html>, AllocError>
+) -> Result<Vec<Html>, Stop>
     ensures { IfOk result (λ gs. EndsWith found.old found.new gs.items
         (each_state after_url (map html_of states.now)) location.entry
         (flat_map check.whys_of_url (map html_of states.now))) }
@@ -70,7 +71,7 @@ pub fn html_expression_ends(
     location: Location<'_>,
     states: &[Html],
     found: &mut Found,
-) -> Result<Vec<Html>, AllocError>
+) -> Result<Vec<Html>, Stop>
     ensures { IfOk result (λ gs. EndsWith found.old found.new gs.items
         (each_state after_data (map html_of states.now)) location.entry (unescaped_value ∷ [])) }
 {
@@ -97,10 +98,10 @@ fn check_bodies(
     ensures { OnOk result (AddsFaults found.old found.new location.entry
         (check.whys_of_bodies (call_bodies (call_view call.now)))) }
 {
-    if !(lacks_body(&call.template) && lacks_body(&call.inverse)) {
-        push_reason(alloc, location, HtmlFaultReason::ExpressionBodies, found)?;
+    if lacks_body(&call.template) && lacks_body(&call.inverse) {
+        return Ok(());
     }
-    Ok(())
+    push_reason(alloc, location, HtmlFaultReason::ExpressionBodies, found)
 }
 
 /// Returns the states after an expression, each once, and adds a fault for each of these states in which data may not stand,
@@ -114,7 +115,7 @@ pub fn expression_ends(
     reading: Reading<'_>,
     states: &[Html],
     found: &mut Found,
-) -> Result<Vec<Html>, AllocError>
+) -> Result<Vec<Html>, Stop>
     ensures { IfOk result (λ gs. EndsIn (rows_at reading.entry) found.old found.new gs.items
         (expression_ends_at reading.entry (call_view call.now) (map html_of states.now))) }
 {

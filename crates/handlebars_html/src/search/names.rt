@@ -9,7 +9,7 @@ use std::alloc::AllocError;
 use std::collections::HashMap;
 
 /// The places of templates, by their names.
-#[derive(Debug, Drop)]
+#[derive(Drop)]
 pub struct Names {
     places: HashMap<String, usize>,
 }

@@ -22,7 +22,6 @@ use crate::states::{one_state, only_beginning};
 use crate::stop::Stop;
 use crate::tree::tree_ends;
 use handlebars_template::template::Template;
-use std::alloc::AllocError;
 
 /// Reads a template where it is included in this state.
 ///
@@ -52,8 +51,7 @@ pub fn read_at(
     };
     let start = one_state(state, checked.alloc)?;
     let ends = tree_ends(named.template, reading, &start, found)?;
-    add_leavings(named.name, reading, state, &ends, found)?;
-    Ok(())
+    add_leavings(named.name, reading, state, &ends, found)
 }
 
 fn read_source<'t>(
@@ -85,7 +83,7 @@ fn enter_templates<'t>(
     checked: Checked<'t>,
     table: &'t Table,
     found: &mut Found,
-) -> Result<(), AllocError>
+) -> Result<(), Stop>
     ensures { OnOk result (AddsFindings (rows_of table.now) found.old found.new
         (check.found_rows (map (λ x. entering x.0 html.beginning) (templates_at checked.entry)))) }
 {
@@ -117,6 +115,6 @@ pub fn read_pages<'t>(checked: Checked<'t>, table: &'t Table, found: &mut Found)
 {
     match checked.pages {
         Pages::Source(source) => read_source(checked, source, table, found),
-        Pages::AllTemplates => Ok(enter_templates(checked, table, found)?),
+        Pages::AllTemplates => enter_templates(checked, table, found),
     }
 }

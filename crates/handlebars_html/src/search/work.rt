@@ -7,7 +7,6 @@ use std::alloc::{AllocError, Global};
 pub const PAGES: usize = 0;
 
 /// What is to be read, the last first, and what is to be read again if more is known of a row.
-#[derive(Debug)]
 pub struct Work {
     alloc: Global,
     stack: Vec<usize>,
@@ -53,11 +52,18 @@ impl Work {
         for _ in self.is_waiting.len()..next.saturating_add(1) {
             self.is_waiting.push(false)?;
         }
-        if let Some(is_waiting) = self.is_waiting.get_mut(next) {
-            if !*is_waiting {
-                *is_waiting = true;
+        match self.is_waiting.get_mut(next) {
+            Some(is_waiting) => if !std::mem::replace(is_waiting, true) {
                 self.stack.push(next)?;
-            }
+            },
+            None => {}
+        }
+        Ok(())
+    }
+
+    fn add_all(&mut self, all: &[usize]) -> Result<(), AllocError> {
+        for next in all {
+            self.add(*next)?;
         }
         Ok(())
     }
@@ -108,14 +114,13 @@ impl Work {
     ///
     /// Fails if memory runs out.
     pub fn add_readers(&mut self, place: usize) -> Result<(), AllocError> {
-        let readers = match self.readers.get_mut(place) {
-            Some(readers) => std::mem::replace(readers, Vec::new(self.alloc)),
-            None => return Ok(()),
-        };
-        for reader in &readers {
-            self.add(*reader)?;
+        match self.readers.get_mut(place) {
+            Some(readers) => {
+                let readers = std::mem::replace(readers, Vec::new(self.alloc));
+                self.add_all(&readers)
+            }
+            None => Ok(()),
         }
-        Ok(())
     }
 
     /// Adds all in which inline partials stand.
@@ -125,9 +130,6 @@ impl Work {
     /// Fails if memory runs out.
     pub fn add_inlines(&mut self) -> Result<(), AllocError> {
         let all = std::mem::replace(&mut self.with_inlines, Vec::new(self.alloc));
-        for reader in &all {
-            self.add(*reader)?;
-        }
-        Ok(())
+        self.add_all(&all)
     }
 }

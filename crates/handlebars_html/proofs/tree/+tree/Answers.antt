@@ -1,25 +1,30 @@
-use Rattle.std.proofs.Common.{true, List, [], ◌∷◌, map, length, refl, sym, ap, subst, ◌∙◌, Option, option_map, string_bytes}
+use Rattle.std.proofs.Common.{Global, String, ◌≡◌, true, List, [], ◌∷◌, map, length, refl, sym, ap, subst, ◌∙◌, Option, option_map, string_bytes}
+use Rattle.std.specs.List.{filter, flat_map}
 use Rattle.std.specs.Prelude.{slice_get}
 use denote.Ref.{Bor}
-use Rattle.std.proofs.lemmas.Result.{IfOk-weaker}
+use Rattle.std.proofs.lemmas.Result.{IfOk-weaker, on_ok_weaker}
 use Rattle.handlebars_base.specs.Bytes.{Text}
 use Rattle.handlebars_template.specs.Position.{Position}
-use Rattle.handlebars_template.specs.Tree.{Tree, Args, Body, Bodies, bodies_body, call_bodies, call_body, decorator_body, decorator_marks}
+use Rattle.handlebars_template.specs.Tree.{Tree, Element, Args, Body, Bodies, bodies_body, call_bodies, call_body, decorator_body, decorator_marks}
 use Rattle.handlebars_template.specs.TreeView.{call_view, decorator_view, position_of, hash_view, element_view, elements_view}
 use Rattle.handlebars_template.specs.declared.template.tree.DecoratorTemplate.{out-DecoratorTemplate}
 use Rattle.handlebars_template.specs.declared.template.tree.TemplateElement.{TemplateElement}
+use Rattle.handlebars_template.specs.declared.template.tree.TemplateElement.TheVariants as element
+use Rattle.handlebars_template.proofs.Levels.{element_view-RawString}
 use Rattle.handlebars_template.proofs.Trees.{tree_view-out}
 use Rattle.handlebars_html.specs.Check as check
 use Rattle.handlebars_html.specs.EffectView.{effect_view}
-use Rattle.handlebars_html.specs.FoundView.{AddsFindings}
+use Rattle.handlebars_html.specs.FoundView.{AddsFindings, EndsIn, EndsWith}
 use Rattle.handlebars_html.specs.Html as html
 use Rattle.handlebars_html.specs.HtmlView.{html_of}
-use Rattle.handlebars_html.specs.ReadingView.{registered_at, rows_at, name_at, position_at, tree_ends_at, branch_ends_at, own_ends_at, inline_at, iteration_at}
+use Rattle.handlebars_html.specs.ReadingView.{registered_at, rows_at, name_at, position_at, element_ends_at, tree_ends_at, branch_ends_at, named_inclusion_at, own_ends_at, inline_at, iteration_at}
 use Rattle.handlebars_html.specs.Rows as rows
-use Rattle.handlebars_html.specs.Rows.{without_state}
+use Rattle.handlebars_html.specs.Rows.{each_state, without_state}
 use Rattle.handlebars_html.specs.Rule.{written_name, inline_name}
 use Rattle.handlebars_html.specs.RowsView.{row_of}
+use Rattle.handlebars_html.specs.declared.found.Found.{Found}
 use Rattle.handlebars_html.specs.declared.html.Html.{Html}
+use Rattle.handlebars_html.specs.declared.reading.Reading.{Reading}
 use Rattle.handlebars_html.specs.declared.rows.Row.{Row}
 use Rattle.handlebars_html.proofs.FoundSoFar.{accumulates-each, accumulates-end, adds-same, ends-same}
 use Rattle.handlebars_html.proofs.TreeEnds.{call_bodies-out, decorator_body-out, decorator_args-out, decorator_name-out, branches-out, iterations-out, iteration-out, captured-out, entering-out, inline-named, decorator-out, inclusion-parts, inclusion-out, some-there, elements-more, elements-end, position-found}
@@ -71,35 +76,64 @@ decorator_ends-returns t c =
     let r = c.args.reading in
     let d = decorator_view c.args.tag.now in
     let now = record c.rows.found { has_inlines = true } in
+    IfOk-weaker c.copy_states.result _ _ (λ gs copied.
     decorator-out (registered_at r) (rows_at r) (name_at r) d (map html_of c.args.states.now) c.args.found.now now
-    c.in_ok-copy_states.field-0.items c.in_ok-copy_states.ensures
+    gs.items copied
     (adds-same (rows_at r) c.args.found.now now _ _
     (ap (λ (zs : List rows.Row). check.findings_of_entered zs (inline_at r d)) c.rows-rows.ensures)
     (accumulates-end (rows_at r) (λ (zs : List Row). check.findings_of_entered (map row_of zs) (inline_at r d)) refl
-    c.rows-rows.result.now c.rows.row-index c.args.found.now c.rows.found c.rows-test.false c.rows.invariant))
+    c.rows-rows.result.now c.rows.row-index c.args.found.now c.rows.found c.rows-test.false c.rows.invariant))) c.copy_states.ensures
+
+-- A text is read as its bytes.
+text-read : (r : Reading) (e : TemplateElement) (x : String Global) (t : Text) (hs : List html.Html) (a b : Found)
+    (gs : List Html) → e ≡ element.RawString x → t ≡ string_bytes x
+    → EndsWith a b gs (each_state (λ h. html.after h t) (filter (check.is_in_time t) hs)) r.location
+    (flat_map (check.whys_of_text t) hs) → EndsIn (rows_at r) a b gs (element_ends_at r (element_view e) hs)
+text-read r e x t hs a b gs is read ends =
+    subst (λ (z : TemplateElement). EndsIn (rows_at r) a b gs (element_ends_at r (element_view z) hs)) (sym is)
+    (subst (λ (z : Element). EndsIn (rows_at r) a b gs (element_ends_at r z hs)) (sym (element_view-RawString x))
+    (subst (λ (z : Text). EndsWith a b gs (each_state (λ h. html.after h z) (filter (check.is_in_time z) hs)) r.location
+    (flat_map (check.whys_of_text z) hs)) read ends))
+
+pub element_ends-returns-in-RawString : goal.element_ends-returns-in-RawString
+element_ends-returns-in-RawString t c =
+    IfOk-weaker c.text_ends.result _ _ (λ gs ends.
+    text-read c.args.reading c.args.element.now c.in-RawString.text c.as_bytes.result.now (map html_of c.args.states.now)
+    c.args.found.now c.text_ends.new.found gs.items c.in-RawString.is c.as_bytes.ensures.value ends) c.text_ends.ensures
 
 pub inclusion_ends-returns : goal.inclusion_ends-returns
 inclusion_ends-returns t c =
     let r = c.args.reading in
     let d = decorator_view c.args.tag.now in
     let hs = map html_of c.args.states.now in
-    let own = own_ends_at r (decorator_body d) in
-    ends-same (rows_at r) c.args.found.now c.own_ends.new.found c.in_ok-all_ends.field-0.items _ _
-    (ap (λ (z : Option Text). check.inclusion_parts (registered_at r) (rows_at r) (name_at r) (position_at r) z (decorator_marks d)
-    hs (own (html.beginning ∷ [])) (own (without_state hs html.beginning)))
+    IfOk-weaker c.named_inclusion_ends.result _ _ (λ gs ends.
+    ends-same (rows_at r) c.args.found.now c.named_inclusion_ends.new.found gs.items _ _
+    (ap (λ (z : Option Text). named_inclusion_at r d z hs)
     (c.in_ok-name.ensures ∙ ap written_name (sym (decorator_name-out c.args.tag.now)))
-    ∙ inclusion-parts (registered_at r) (rows_at r) (name_at r) (position_at r) d hs)
-    (inclusion-out (registered_at r) (rows_at r) r.location (option_map string_bytes c.in_ok-name.name) (decorator_marks d) hs
+    ∙ inclusion-parts (registered_at r) (rows_at r) (name_at r) (position_at r) d hs) ends) c.named_inclusion_ends.ensures
+
+pub named_inclusion_ends-returns : goal.named_inclusion_ends-returns
+named_inclusion_ends-returns t c =
+    let r = c.args.reading in
+    let d = decorator_view c.args.tag.now in
+    let hs = map html_of c.args.states.now in
+    let own = own_ends_at r (decorator_body d) in
+    IfOk-weaker c.all_ends.result _ _ (λ gs ends.
+    inclusion-out (registered_at r) (rows_at r) r.location (option_map string_bytes c.args.name.now) (decorator_marks d) hs
     (own (html.beginning ∷ [])) (own (without_state hs html.beginning)) c.args.found.now c.check_inclusion.new.found
-    c.captured_ends.new.found c.included_ends.new.found c.own_ends.new.found c.in_ok-ahead.ahead.items c.in_ok-named.named.items
-    c.in_ok-other.other.items c.in_ok-all_ends.field-0.items c.in_ok-check_inclusion.ensures c.in_ok-ahead.ensures
-    c.in_ok-named.ensures
-    (ends-same (rows_at r) c.included_ends.new.found c.own_ends.new.found c.in_ok-other.other.items _ _
+    c.captured_ends.new.found c.included_ends.new.found c.other_ends.new.found c.in_ok-ahead.ahead.items c.in_ok-named.named.items
+    c.in_ok-other.other.items gs.items c.in_ok-check_inclusion.ensures c.in_ok-ahead.ensures
+    c.in_ok-named.ensures c.in_ok-other.ensures ends) (rw c.deref.ensures.value at c.all_ends.ensures)
+
+pub other_ends-returns : goal.other_ends-returns
+other_ends-returns t c =
+    let r = c.args.reading in
+    let own = own_ends_at r (decorator_body (decorator_view c.args.tag.now)) in
+    IfOk-weaker c.own_ends.result _ _ (λ gs ends.
+    ends-same (rows_at r) c.args.found.now c.own_ends.new.found gs.items _ _
     (sym (ap (λ (z : Body). own_ends_at r z (map html_of c.deref.result.now)) (decorator_body-out c.args.tag.now))
     ∙ ap (λ (zs : List Html). own (map html_of zs)) c.deref.ensures.value
-    ∙ ap own c.in_ok-others.ensures)
-    c.in_ok-other.ensures)
-    (rw c.deref-2.ensures.value at c.in_ok-all_ends.ensures))
+    ∙ ap own c.in_ok-others.ensures) ends) c.own_ends.ensures
 
 pub iterate-states-preserved : goal.iterate-states-preserved
 iterate-states-preserved t c =
@@ -114,17 +148,17 @@ iterate_once-returns t c =
     let r = c.args.reading in
     let h = html_of c.args.state.now in
     let ends = branch_ends_at r (call_body (call_view c.args.call.now)) in
-    iteration-out (rows_at r) (ends (h ∷ [])) c.args.found.now
+    on_ok_weaker c.check_iterations.result (λ checked. iteration-out (rows_at r) (ends (h ∷ [])) c.args.found.now
     c.branch_ends.new.found c.check_iterations.new.found c.in_ok-ends.ends.items c.deref-2.result.now
     (ends-same (rows_at r) c.args.found.now c.branch_ends.new.found c.in_ok-ends.ends.items _ _
     (sym (ap (λ (z : Bodies). branch_ends_at r (bodies_body z) (map html_of c.deref.result.now))
     (call_bodies-out c.args.call.now))
     ∙ ap (λ (zs : List Html). ends (map html_of zs)) c.deref.ensures.value
     ∙ ap ends c.in_ok-start.ensures)
-    c.in_ok-ends.ensures) c.deref-2.ensures.value r.location h c.in_ok-check_iterations.ensures
+    c.in_ok-ends.ensures) c.deref-2.ensures.value r.location h checked) c.check_iterations.ensures
 
-pub read_inline-returns-in_ok-add_leavings-in-Entering : goal.read_inline-returns-in_ok-add_leavings-in-Entering
-read_inline-returns-in_ok-add_leavings-in-Entering t c =
+pub read_inline-returns-in_ok-ends-in-Entering : goal.read_inline-returns-in_ok-ends-in-Entering
+read_inline-returns-in_ok-ends-in-Entering t c =
     let r = c.args.reading in
     let d = decorator_view c.args.tag.now in
     let n = string_bytes c.in-Entering.name in
@@ -141,11 +175,12 @@ read_inline-returns-in_ok-add_leavings-in-Entering t c =
     ∙ ap own c.in_ok-start-in-Entering.ensures
     ∙ sym (inline-named (registered_at r) (rows_at r) (name_at r) d n h named))
     c.in_ok-ends-in-Entering.ensures in
+    on_ok_weaker c.add_leavings.result (λ added.
     subst (λ (z : Row). AddsFindings (rows_at r) c.args.found.now c.add_leavings.new.found
     (check.findings_of_row (row_of z) (inline_at r d))) (sym c.in-Entering.is)
     (entering-out (rows_at r) (inline_at r d n h) c.args.found.now c.own_ends.new.found c.add_leavings.new.found
     c.in_ok-ends-in-Entering.ends.items c.deref-then-may_name.result.now ends c.deref-then-may_name.ensures.value n h
-    (rw c.as_str-then-may_name.ensures.value at c.in_ok-add_leavings-in-Entering.ensures))
+    added)) (rw c.as_str-then-may_name.ensures.value at c.add_leavings.ensures)
 
 pub tree_ends-elements-preserved : goal.tree_ends-elements-preserved
 tree_ends-elements-preserved t c =

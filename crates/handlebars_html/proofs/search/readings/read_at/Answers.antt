@@ -1,4 +1,5 @@
 use Rattle.std.proofs.Common.{List, map, ap, ◌∙◌, Some}
+use Rattle.std.proofs.lemmas.Result.{on_ok_weaker}
 use Rattle.handlebars_template.specs.TreeView.{tree_view}
 use Rattle.handlebars_html.specs.Check as check
 use Rattle.handlebars_html.specs.HtmlView.{html_of}
@@ -16,8 +17,8 @@ returns c =
     let h = html_of c.args.state.now in
     let ends = check.tree_ends (registered_in (user_at c.args.checked)) rows (Some c.args.named.name.now)
     (tree_view c.args.named.template.now) in
-    entering-out rows (template_at c.args.checked rows c.args.named h) c.args.found.now c.tree_ends.new.found
+    on_ok_weaker c.add_leavings.result (λ added. entering-out rows (template_at c.args.checked rows c.args.named h) c.args.found.now c.tree_ends.new.found
     c.add_leavings.new.found c.in_ok-ends.ends.items c.deref-2.result.now
     (ends-same rows c.args.found.now c.tree_ends.new.found c.in_ok-ends.ends.items _ _
     (ap (λ (zs : List Html). ends (map html_of zs)) c.deref.ensures.value ∙ ap ends c.in_ok-start.ensures) c.in_ok-ends.ensures)
-    c.deref-2.ensures.value c.args.named.name.now h c.in_ok-add_leavings.ensures
+    c.deref-2.ensures.value c.args.named.name.now h added) c.add_leavings.ensures
