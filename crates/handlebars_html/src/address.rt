@@ -9,7 +9,7 @@ use crate::names::{is_followed_scheme, is_loaded_scheme};
 use std::alloc::AllocError;
 
 /// The value of an attribute, as far as it is read.
-#[derive(Debug, Drop)]
+#[derive(Drop)]
 pub enum Value {
     /// Any text may follow.
     Harmless,

@@ -15,7 +15,7 @@ use crate::tokenizer::{
 use std::alloc::{AllocError, Global};
 
 /// Where a script may be read as markup.
-#[derive(Clone, Copy, Debug)]
+#[derive(Clone, Copy)]
 pub enum Foreign {
     /// Nowhere.
     Outside,
@@ -27,14 +27,13 @@ pub enum Foreign {
 
 /// Whether the tokenizer is within `noscript`, whose content is read as markup and as text, and whether a script may be
 /// read as markup there.
-#[derive(Clone, Copy, Debug)]
+#[derive(Clone, Copy)]
 pub struct Context {
     pub in_noscript: bool,
     pub foreign: Foreign,
 }
 
 /// The state of a tokenizer, with its context.
-#[derive(Debug)]
 pub struct Html {
     pub tokenizer: Tokenizer,
     pub context: Context,

@@ -7,7 +7,7 @@ ghost use Rattle.handlebars_html.specs.HtmlView.{plain_of};
 use crate::ascii::is_html_white;
 
 /// A state with nothing in it, by its name in the HTML standard.
-#[derive(Clone, Copy, Debug)]
+#[derive(Clone, Copy)]
 pub enum Plain {
     Data,
     TagOpen,

@@ -14,7 +14,7 @@ use crate::names::{
 use std::alloc::Global;
 
 /// What follows the `>` of a tag.
-#[derive(Debug, Drop)]
+#[derive(Drop)]
 pub enum Content {
     Markup,
     /// The text of the element of this name, in which data may stand or may not.
@@ -32,7 +32,7 @@ pub enum Content {
 }
 
 /// Which attributes of a tag may hold data.
-#[derive(Clone, Copy, Debug)]
+#[derive(Clone, Copy)]
 pub enum Attributes {
     Common,
     OfActive,
@@ -44,7 +44,6 @@ pub enum Attributes {
 }
 
 /// What a tag says, by the name of its element and by the attributes that are read.
-#[derive(Debug)]
 pub struct Tag {
     pub content: Content,
     pub attributes: Attributes,

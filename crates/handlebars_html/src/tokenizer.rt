@@ -15,7 +15,7 @@ use crate::tag::{Tag, beside, first_value, is_late, tag_of};
 use std::alloc::{AllocError, Global};
 
 /// A state of a tokenizer.
-#[derive(Debug, Drop)]
+#[derive(Drop)]
 pub enum Tokenizer {
     Plain(Plain),
     /// In the name of an end tag or of a start tag.

@@ -125,6 +125,13 @@ fn place_of(state: &Html) -> Place<'_> {
     }
 }
 
+/// Formats the state in words, since no caller sees its parts.
+impl fmt::Debug for Html {
+    fn fmt<W: fmt::Write>(&self, f: &mut fmt::Formatter<W>) -> fmt::Result {
+        write!(f, "{}", place_of(self))
+    }
+}
+
 fn advice_at(state: &Html) -> &'static str {
     match &state.tokenizer {
         Tokenizer::Plain(state) => plain_advice(*state),
@@ -214,28 +221,38 @@ fn write_misplaced<W: fmt::Write>(f: &mut fmt::Formatter<W>, name: &String) -> f
     )
 }
 
+impl HtmlFaultReason {
+    // The words of a reason that says nothing more.
+    fn fixed_words(&self) -> &'static str {
+        match self {
+            HtmlFaultReason::UnreadValue =>
+                "a value stands after a text of which nothing more is known",
+            HtmlFaultReason::UnescapedValue => "an html expression writes its value unescaped",
+            HtmlFaultReason::LateAttribute =>
+                "`http-equiv` stands after `content`, which may hold data",
+            HtmlFaultReason::ChangedAddress =>
+                "a text goes on with an address that a value has written, and may make a scheme of it",
+            HtmlFaultReason::MadeInclusion => "a call in parentheses makes the name of a partial",
+            HtmlFaultReason::MadeBlock => "a call in parentheses makes the name of a block",
+            HtmlFaultReason::OtherIndent =>
+                "the indentation of a partial call has other bytes than blanks",
+            HtmlFaultReason::ExpressionBodies => "an expression has bodies",
+            HtmlFaultReason::OtherEscape => "values are not escaped for html",
+            _ => "",
+        }
+    }
+}
+
 /// Formats the reason in words for the author of a template.
 impl fmt::Display for HtmlFaultReason {
     fn fmt<W: fmt::Write>(&self, f: &mut fmt::Formatter<W>) -> fmt::Result {
         match self {
             HtmlFaultReason::UnsafeValue(state) => write_place(f, "a value stands", state, ""),
-            HtmlFaultReason::UnreadValue => f.write_str(
-                "a value stands after a text of which nothing more is known",
-            ),
-            HtmlFaultReason::UnescapedValue => f.write_str(
-                "an html expression writes its value unescaped",
-            ),
             HtmlFaultReason::ChangedText(state) => write_place(
                 f,
                 "a text stands",
                 state,
                 ", where a blank before it changes what it means",
-            ),
-            HtmlFaultReason::LateAttribute => f.write_str(
-                "`http-equiv` stands after `content`, which may hold data",
-            ),
-            HtmlFaultReason::ChangedAddress => f.write_str(
-                "a text goes on with an address that a value has written, and may make a scheme of it",
             ),
             HtmlFaultReason::ChangedByIteration(start, end) => write_iteration(f, start, end),
             HtmlFaultReason::ChangedByBlock(end) => {
@@ -244,23 +261,13 @@ impl fmt::Display for HtmlFaultReason {
             HtmlFaultReason::CapturedTextIn(state) => {
                 write_place(f, "`@partial-block` is included", state, "")
             }
-            HtmlFaultReason::MadeInclusion => f.write_str(
-                "a call in parentheses makes the name of a partial",
-            ),
-            HtmlFaultReason::MadeBlock => f.write_str(
-                "a call in parentheses makes the name of a block",
-            ),
-            HtmlFaultReason::OtherIndent => f.write_str(
-                "the indentation of a partial call has other bytes than blanks",
-            ),
-            HtmlFaultReason::ExpressionBodies => f.write_str("an expression has bodies"),
-            HtmlFaultReason::OtherEscape => f.write_str("values are not escaped for html"),
             HtmlFaultReason::HelperWithSteps(name) => {
                 write_name(f, "the helper", name, "may write more than its value")
             }
             HtmlFaultReason::MisplacedHelper(name) => write_misplaced(f, name),
             HtmlFaultReason::UserHook(name) => write_name(f, "the hook", name, "is user-defined"),
             HtmlFaultReason::UserDecorator(name) => write_misplaced(f, name),
+            _ => f.write_str(self.fixed_words()),
         }
     }
 }
@@ -293,22 +300,30 @@ impl HtmlFault {
     }
 }
 
+impl HtmlFault {
+    // Writes what has the fault, and the position, if there is one.
+    fn write_subject<W: fmt::Write>(&self, f: &mut fmt::Formatter<W>) -> fmt::Result {
+        let subject = self.subject();
+        match (self.line_no, self.column_no) {
+            (Some(line), Some(column)) => write!(f, "{subject} line {line}, col {column}"),
+            _ => f.write_str(subject),
+        }
+    }
+}
+
+fn write_advice<W: fmt::Write>(f: &mut fmt::Formatter<W>, advice: &str) -> fmt::Result {
+    if advice.is_empty() {
+        return Ok(());
+    }
+    write!(f, ": {advice}")
+}
+
 /// Formats one line: the name of the template (`template` if it has none, and `registry` for a fault of the registry), the
 /// position, if there is one, the reason, and what to write instead.
 impl fmt::Display for HtmlFault {
     fn fmt<W: fmt::Write>(&self, f: &mut fmt::Formatter<W>) -> fmt::Result {
-        let subject = self.subject();
-        let reason = &self.reason;
-        match (self.line_no, self.column_no) {
-            (Some(line), Some(column)) => {
-                write!(f, "{subject} line {line}, col {column}: {reason}")?;
-            }
-            _ => write!(f, "{subject}: {reason}")?,
-        }
-        let advice = reason.advice();
-        if advice.is_empty() {
-            return Ok(());
-        }
-        write!(f, ": {advice}")
+        self.write_subject(f)?;
+        write!(f, ": {}", &self.reason)?;
+        write_advice(f, self.reason.advice())
     }
 }
