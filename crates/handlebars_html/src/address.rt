@@ -5,6 +5,7 @@ ghost use Rattle.handlebars_html.specs.Addresses as addresses;
 ghost use Rattle.handlebars_html.specs.HtmlView.{value_of};
 
 use crate::ascii::{begins_query, is_any_slash, is_blank_or_control, lower};
+use crate::lists::push;
 use crate::names::{is_followed_scheme, is_loaded_scheme};
 use std::alloc::AllocError;
 
@@ -58,7 +59,7 @@ fn step_followed(mut text: Vec<u8>, byte: u8) -> Result<Value, AllocError>
     } else if is_unclear(byte) {
         Ok(Value::Forbidden)
     } else {
-        text.push(lower(byte))?;
+        push(&mut text, lower(byte))?;
         Ok(Value::Followed(text))
     }
 }
@@ -90,7 +91,7 @@ fn step_loaded(mut text: Vec<u8>, byte: u8) -> Result<Value, AllocError>
     } else if is_unclear(byte) {
         Ok(Value::Forbidden)
     } else {
-        text.push(lower(byte))?;
+        push(&mut text, lower(byte))?;
         Ok(Value::Loaded(text))
     }
 }

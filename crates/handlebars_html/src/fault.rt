@@ -6,6 +6,7 @@ ghost use Rattle.handlebars_html.specs.Faults as definitions;
 ghost use Rattle.handlebars_html.specs.RowsView.{fault_of, why_of};
 
 use crate::html::Html;
+use crate::lists::push;
 use crate::same::is_same;
 use std::alloc::AllocError;
 
@@ -186,6 +187,5 @@ pub fn add_fault(faults: &mut Vec<HtmlFault>, fault: HtmlFault) -> Result<(), Al
     if has_fault(faults, &fault) {
         return Ok(());
     }
-    faults.push(fault)?;
-    Ok(())
+    push(faults, fault)
 }

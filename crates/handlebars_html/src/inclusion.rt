@@ -21,6 +21,7 @@ use crate::copies::copy_html;
 use crate::fault::HtmlFaultReason;
 use crate::found::{Found, Location, push_reason};
 use crate::html::{Html, beginning};
+use crate::lists::push;
 use crate::reading::Reading;
 use crate::rows::Row;
 use crate::same::is_beginning;
@@ -207,14 +208,13 @@ pub fn add_entering(
         (check.found_rows (table.entering name.now (html_of state.now) ∷ []))) }
 {
     match reading.table.place_of(name, state) {
-        Some(place) => found.places.push(place)?,
+        Some(place) => push(&mut found.places, place),
         None => {
             let state = copy_html(state)?;
             let name = String::from_str(reading.alloc, name)?;
-            found.rows.push(Row::Entering(name, state))?;
+            push(&mut found.rows, Row::Entering(name, state))
         }
     }
-    Ok(())
 }
 
 fn named_ends(
@@ -289,8 +289,7 @@ fn add_leaving(
     let from = copy_html(state)?;
     let to = copy_html(end)?;
     let name = String::from_str(reading.alloc, name)?;
-    found.rows.push(Row::Leaving(name, from, to))?;
-    Ok(())
+    push(&mut found.rows, Row::Leaving(name, from, to))
 }
 
 /// Adds rows for the states in which what is included by this name in this state ends.

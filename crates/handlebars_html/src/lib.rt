@@ -11,6 +11,7 @@ pub mod found;
 pub mod html;
 pub mod inclusion;
 pub mod laws;
+mod lists;
 pub mod names;
 pub mod others;
 mod parts;

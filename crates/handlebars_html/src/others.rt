@@ -2,7 +2,7 @@
 
 ghost use Rattle.std.specs.BTreeSet.{contains_text};
 ghost use Rattle.std.specs.Bool.{OnFalse, OnTrue};
-ghost use Rattle.std.specs.Prelude.{◌≡◌, ◌≢◌, ◌||◌, IfOk, OnOk, Some, bytes_eq, codes, cond, is_some, map, option_map, string_bytes, true};
+ghost use Rattle.std.specs.Prelude.{◌≡◌, ◌≢◌, ◌||◌, ◌∷◌, ◌++◌, [], IfOk, OnOk, Some, bytes_eq, codes, cond, is_some, map, option_map, string_bytes, true};
 ghost use Rattle.handlebars_base.specs.Bytes.{Text};
 ghost use Rattle.handlebars_helpers.specs.Callee.{user};
 ghost use Rattle.handlebars_helpers.specs.Choice as choice;
@@ -12,6 +12,7 @@ ghost use Rattle.handlebars_html.specs.Registry.{AddsDecorator, AddsHelper, IsOt
 ghost use Rattle.handlebars_html.specs.SearchView.{helper_of, kind_of, user_defined_of};
 
 use crate::effect::built_in;
+use crate::lists::push;
 use crate::user::{OtherHelper, OtherKind, UserDefined};
 use handlebars_helpers::built_in::{BuiltIn, table};
 use handlebars_helpers::decorators::DecoratorKind;
@@ -60,6 +61,18 @@ fn other_kind<E: UserParts>(entries: &E, name: &str) -> Option<OtherKind>
     }
 }
 
+fn push_helper(
+    others: &mut Vec<OtherHelper>,
+    name: &String,
+    kind: OtherKind,
+) -> Result<(), AllocError>
+    ensures { OnOk result (map helper_of others.new.items ≡ map helper_of others.old.items
+        ++ (string_bytes name.now, kind_of kind) ∷ []) }
+{
+    let name = name.clone()?;
+    push(others, OtherHelper { name, kind })
+}
+
 fn push_other_helper<E: UserParts>(
     entries: &E,
     name: &String,
@@ -68,13 +81,10 @@ fn push_other_helper<E: UserParts>(
     ensures { OnOk result (AddsHelper (E.registered entries.now).helper (E.user entries.now).helper (string_bytes name.now)
         (map helper_of others.old.items) (map helper_of others.new.items)) }
 {
-    if let Some(kind) = other_kind(entries, name.as_str()) {
-        others.push(OtherHelper {
-            name: name.clone()?,
-            kind,
-        })?;
+    match other_kind(entries, name.as_str()) {
+        Some(kind) => push_helper(others, name, kind),
+        None => Ok(()),
     }
-    Ok(())
 }
 
 fn add_built_in_names(alloc: Global, names: &mut BTreeSet<String>) -> Result<(), AllocError>
@@ -136,10 +146,10 @@ fn push_other_decorator<E: UserParts>(
     ensures { OnOk result (AddsDecorator (E.registered entries.now).decorator (string_bytes name.now)
         (map string_bytes others.old.items) (map string_bytes others.new.items)) }
 {
-    if !is_first_decorator(entries, name.as_str()) {
-        others.push(name.clone()?)?;
+    if is_first_decorator(entries, name.as_str()) {
+        return Ok(());
     }
-    Ok(())
+    push(others, name.clone()?)
 }
 
 // Lists those of these names under which another decorator is registered than at the start.

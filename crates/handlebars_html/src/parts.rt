@@ -12,6 +12,7 @@ ghost use Rattle.handlebars_html.specs.SearchView.{helper_of, user_defined_of};
 
 use crate::fault::{HtmlFault, HtmlFaultReason};
 use crate::found::Found;
+use crate::lists::push;
 use crate::user::{OtherHelper, OtherKind, UserDefined};
 use handlebars_helpers::escape::Escaping;
 use std::alloc::AllocError;
@@ -20,13 +21,13 @@ use std::alloc::AllocError;
 fn push_fault(faults: &mut Vec<HtmlFault>, reason: HtmlFaultReason) -> Result<(), AllocError>
     ensures { OnOk result (AppendsFaults faults.old.items faults.new.items (why_of reason ∷ [])) }
 {
-    faults.push(HtmlFault {
+    let fault = HtmlFault {
         template_name: None,
         line_no: None,
         column_no: None,
         reason,
-    })?;
-    Ok(())
+    };
+    push(faults, fault)
 }
 
 fn check_escape(escape: Escaping, faults: &mut Vec<HtmlFault>) -> Result<(), AllocError>

@@ -6,6 +6,7 @@ ghost use Rattle.handlebars_html.specs.Rows as table;
 ghost use Rattle.handlebars_html.specs.RowsView.{row_of, rows_of};
 
 use crate::html::Html;
+use crate::lists::push;
 use crate::same::is_same;
 use crate::states::add_copy;
 use std::alloc::{AllocError, Global};
@@ -138,7 +139,6 @@ impl Table {
         if self.has_row(&row) {
             return Ok(());
         }
-        self.rows.push(row)?;
-        Ok(())
+        push(&mut self.rows, row)
     }
 }

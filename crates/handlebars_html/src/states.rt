@@ -7,6 +7,7 @@ ghost use Rattle.handlebars_html.specs.Rows as rows;
 
 use crate::copies::copy_html;
 use crate::html::{Html, after_data, after_url, beginning};
+use crate::lists::push;
 use crate::same::{is_beginning, is_same};
 use crate::stop::Stop;
 use std::alloc::{AllocError, Global};
@@ -36,15 +37,13 @@ pub fn add_state(states: &mut Vec<Html>, state: Html) -> Result<(), AllocError>
     if is_among(states, &state) {
         return Ok(());
     }
-    states.push(state)?;
-    Ok(())
+    push(states, state)
 }
 
 fn push_copy(states: &mut Vec<Html>, state: &Html) -> Result<(), AllocError>
     ensures { OnOk result (map html_of states.new.items ≡ map html_of states.old.items ++ html_of state.now ∷ []) }
 {
-    states.push(copy_html(state)?)?;
-    Ok(())
+    push(states, copy_html(state)?)
 }
 
 /// Adds a copy of a state at the end, unless it is among them.

@@ -3,7 +3,7 @@
 use std::alloc::AllocError;
 
 /// Why a search stops before it has a verdict.
-#[derive(Drop)]
+#[derive(Clone, Copy)]
 pub enum Stop {
     /// Memory ran out.
     OutOfMemory,

@@ -7,6 +7,7 @@ ghost use Rattle.handlebars_html.specs.HtmlView.{plain_of, tag_view, tokenizer_o
 
 use crate::address::{Value, begins_address, is_safe_value, step_value};
 use crate::ascii::{begins_query, is_blank_or_control, is_html_white, is_letter, lower};
+use crate::lists::push;
 use crate::plain::{
     Plain, by_dash, is_plain_comment, is_plain_refused, is_safe_plain, next_comment_end,
     next_declaration, next_script_end, next_text_end, next_unclear, next_unclear_dash, step_script,
@@ -79,7 +80,7 @@ fn begin_name(ends: bool, byte: u8, alloc: Global) -> Result<Tokenizer, AllocErr
     ensures { IfOk result (λ t. tokenizer_of t ≡ tokenizer.tag_name ends (ascii.lower byte ∷ [])) }
 {
     let mut name = Vec::new(alloc);
-    name.push(lower(byte))?;
+    push(&mut name, lower(byte))?;
     Ok(Tokenizer::TagName(ends, name))
 }
 
@@ -119,7 +120,7 @@ fn tag_name(ends: bool, mut name: Vec<u8>, byte: u8) -> Result<Tokenizer, AllocE
     if is_html_white(byte) || byte == b'/' {
         Ok(Tokenizer::BeforeAttribute(tag_of(ends, name)))
     } else {
-        name.push(lower(byte))?;
+        push(&mut name, lower(byte))?;
         Ok(Tokenizer::TagName(ends, name))
     }
 }
@@ -133,7 +134,7 @@ fn step_attribute(tag: Tag, byte: u8, alloc: Global) -> Result<Tokenizer, AllocE
         Ok(Tokenizer::BeforeAttribute(tag))
     } else {
         let mut name = Vec::new(alloc);
-        name.push(lower(byte))?;
+        push(&mut name, lower(byte))?;
         Ok(Tokenizer::AttributeName(tag, name))
     }
 }
@@ -165,7 +166,7 @@ fn attribute_name(
     } else if byte == b'=' {
         Ok(begin_value(tag, &name, alloc))
     } else {
-        name.push(lower(byte))?;
+        push(&mut name, lower(byte))?;
         Ok(Tokenizer::AttributeName(tag, name))
     }
 }

@@ -1,6 +1,7 @@
 //! In which order the rows of a table are read. It decides only how fast a search ends, so no contract speaks of it.
 
 use crate::found::Found;
+use crate::lists::push;
 use std::alloc::{AllocError, Global};
 
 /// The number of the pages, as what is read. A row of the table has the number behind its place.
@@ -50,15 +51,16 @@ impl Work {
     /// Fails if memory runs out.
     pub fn add(&mut self, next: usize) -> Result<(), AllocError> {
         for _ in self.is_waiting.len()..next.saturating_add(1) {
-            self.is_waiting.push(false)?;
+            push(&mut self.is_waiting, false)?;
         }
         match self.is_waiting.get_mut(next) {
-            Some(is_waiting) => if !std::mem::replace(is_waiting, true) {
-                self.stack.push(next)?;
+            Some(is_waiting) => if std::mem::replace(is_waiting, true) {
+                Ok(())
+            } else {
+                push(&mut self.stack, next)
             },
-            None => {}
+            None => Ok(()),
         }
-        Ok(())
     }
 
     fn add_all(&mut self, all: &[usize]) -> Result<(), AllocError> {
@@ -84,13 +86,12 @@ impl Work {
     /// Fails if memory runs out.
     pub fn add_reader(&mut self, place: usize, reader: usize) -> Result<(), AllocError> {
         for _ in self.readers.len()..place.saturating_add(1) {
-            self.readers.push(Vec::new(self.alloc))?;
+            push(&mut self.readers, Vec::new(self.alloc))?;
         }
         match self.readers.get_mut(place) {
-            Some(readers) => readers.push(reader)?,
-            None => {}
+            Some(readers) => push(readers, reader),
+            None => Ok(()),
         }
-        Ok(())
     }
 
     /// Notes the rows by which something was included where it was read, and whether there were inline partials.
@@ -103,7 +104,7 @@ impl Work {
             self.add_reader(*place, reader)?;
         }
         if found.has_inlines {
-            self.with_inlines.push(reader)?;
+            return push(&mut self.with_inlines, reader);
         }
         Ok(())
     }
