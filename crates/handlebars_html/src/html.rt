@@ -203,23 +203,7 @@ fn end_tag(state: Html, alloc: Global) -> Result<Html, AllocError>
         Tokenizer::AfterAttribute(tag, _) => enter(tag.into_content(), context, alloc),
         Tokenizer::BeforeValue(tag, _) => enter(tag.into_content(), context, alloc),
         Tokenizer::Unquoted(tag) => enter(tag.into_content(), context, alloc),
-        Tokenizer::Plain(plain) => after_greater(Tokenizer::Plain(plain), context, alloc),
-        Tokenizer::Quoted(double, tag, value) => {
-            after_greater(Tokenizer::Quoted(double, tag, value), context, alloc)
-        }
-        Tokenizer::InUrl(double, tag) => {
-            after_greater(Tokenizer::InUrl(double, tag), context, alloc)
-        }
-        Tokenizer::InText(safe, name) => {
-            after_greater(Tokenizer::InText(safe, name), context, alloc)
-        }
-        Tokenizer::TextTagOpen(safe, name) => {
-            after_greater(Tokenizer::TextTagOpen(safe, name), context, alloc)
-        }
-        Tokenizer::TextEndName(rest) => after_greater(Tokenizer::TextEndName(rest), context, alloc),
-        Tokenizer::ScriptEndName(rest) => {
-            after_greater(Tokenizer::ScriptEndName(rest), context, alloc)
-        }
+        other => after_greater(other, context, alloc),
     }
 }
 
