@@ -26,9 +26,9 @@ pub struct Request<'a> {
     pub folder: Option<&'a str>,
 }
 
-/// Prints `fixed`, or each location that prevents fixed markup and each call of a partial that is not registered, one a line.
-/// Returns whether it printed `fixed`. If it is asked where data stands in HTML, it is `safe`, or each location where data may
-/// stand elsewhere than where it is harmless. The template is read first, then the folder.
+/// Prints `fixed`, or each location that prevents fixed markup and each call of a partial that is not registered, one a
+/// line. Returns whether it printed `fixed`. If it is asked where data stands in HTML, it prints `safe`, or each fault:
+/// a location where data may stand elsewhere than where it is harmless. The template is read first, then the folder.
 pub fn check<'a, R: TemplateReader, O: Write>(
     alloc: Global,
     task: &Request<'a>,

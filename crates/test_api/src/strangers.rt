@@ -1,13 +1,16 @@
 //! Callers that render untrusted data.
 
-ghost use Rattle.std.specs.Prelude.{◌≡◌, IfOk, IfSome, List, string_bytes};
+ghost use Rattle.std.specs.Prelude.{◌≡◌, [], IfOk, IfSome, string_bytes};
 ghost use Rattle.handlebars_base.specs.EscapeLaws.{marks_in};
 ghost use Rattle.handlebars_scope.specs.Contexts.{data_of};
-ghost use Rattle.handlebars_semantics.specs.Pieces.{Piece, join};
+ghost use Rattle.handlebars_semantics.specs.Answer.{GivesText};
 ghost use Rattle.handlebars_html.specs.Safety.{StandSafely};
 ghost use Rattle.handlebars_markup.specs.Alike.{AreAlike};
+ghost use Rattle.handlebars.specs.Over.{ForSource};
 
-use handlebars::{Context, HtmlSafety, Markup, NoFiles, Registry, RenderError, laws};
+use handlebars::{
+    Context, HtmlSafety, Markup, NoFiles, Registry, RegistryOf, RenderError, UserParts, laws,
+};
 use log::Log;
 
 /// Renders a source over two contexts if its markup is fixed, and returns both texts. Returns none if its markup is not fixed.
@@ -35,15 +38,16 @@ pub fn rendered_alike<L: Log>(
 /// Renders a source over a context if data stands only where it is harmless in HTML, whatever the data. Returns none if it may stand
 /// elsewhere, or if that isn't known.
 ///
-/// The text is made of pieces, of which each that comes from data stands where it may.
-pub fn rendered_safely<L: Log>(
-    registry: &Registry,
+/// The text is that of the definition's answer, and each piece of this answer that comes from data stands where it may.
+pub fn rendered_safely<E: UserParts, L: Log>(
+    registry: &RegistryOf<E>,
     source: &str,
     context: &Context,
     log: &L,
 ) -> Result<Option<String>, RenderError>
     ensures { IfOk result (λ page. IfSome page (λ text.
-        (ps : List Piece) × (string_bytes text ≡ join ps) × StandSafely ps)) }
+        (answer : ForSource GivesText E.registered E.user registry.now source.now [] (data_of context.now) (string_bytes text))
+        × StandSafely answer.pieces)) }
 {
     match registry.template_html_is_safe(source, &mut NoFiles)? {
         HtmlSafety::Safe => {}

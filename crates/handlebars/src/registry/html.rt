@@ -76,9 +76,10 @@ impl<E: UserParts> RegistryOf<E> {
         }
     }
 
-    /// Returns all faults: the locations where data may stand elsewhere than where it is harmless, in what is rendered by
-    /// name. First come those of what is registered beside templates, then those of templates in byte order of name, with
-    /// those that dev mode read anew before others, each in the order of its source.
+    /// Returns what the check of HTML says of what is rendered by name: that there is no fault, or all faults, or that
+    /// there are too many states. A fault is a location where data may stand elsewhere than where it is harmless. First
+    /// come those of what is registered beside templates, then those of templates in byte order of name, with those that
+    /// dev mode read anew before others, each in the order of its source.
     ///
     /// # Errors
     ///
@@ -124,8 +125,9 @@ impl<E: UserParts> RegistryOf<E> {
         }
     }
 
-    /// Returns all faults: the locations where data may stand elsewhere than where it is harmless, in what a source renders.
-    /// First come those of the source, and then all others as for a rendering by name.
+    /// Returns what the check of HTML says of what a source renders: that there is no fault, or all faults, or that
+    /// there are too many states. A fault is a location where data may stand elsewhere than where it is harmless. First
+    /// come those of the source, and then all others as for a rendering by name.
     ///
     /// # Errors
     ///

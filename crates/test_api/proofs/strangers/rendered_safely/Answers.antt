@@ -21,9 +21,9 @@ pub returns : goal.returns
 returns g c =
     let judged = without-files _ (λ s t path text h. h.0) _ c.in_ok-template_html_is_safe.ensures.ok in
     let safe = rw c.in-Safe.is at judged in
-    let a = without-files _ (λ s t path text h. h.0) _ c.in_ok-text.ensures.ok in (
-      a.pieces,
-      a.is,
+    let answer = without-files _ (λ s t path text h. h.0) _ c.in_ok-text.ensures.ok in (
+      answer,
       (c.in_ok-text.ensures.laws (data_of c.args.context.now) []).safe
-          (λ t begins. (source safe.0, same-tree _ _ safe.0 t c.one_compilation.ensures safe.1 begins, safe.2.says)) a.pieces _ a.answers,
+          (λ t begins. (source safe.0, same-tree _ _ safe.0 t c.one_compilation.ensures safe.1 begins, safe.2.says)) answer.pieces
+          _ answer.answers,
     )
