@@ -1,0 +1,15 @@
+pub mod Failing
+pub mod Arguments
+pub mod States
+pub mod Fine
+pub mod Calls
+pub mod Decorators
+pub mod Inclusions
+pub mod KnownStates
+pub mod KnownNames
+pub mod Counts
+pub mod Finding
+pub mod Callees
+pub mod Walked
+pub mod Accepted
+pub mod CheckedAnswers

@@ -1,0 +1,9 @@
+pub mod Names
+pub mod Scopes
+pub mod Faults
+pub mod Whys
+pub mod Check
+pub mod Law
+pub mod Search
+pub mod Checked
+pub mod NamesView
