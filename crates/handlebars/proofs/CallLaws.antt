@@ -6,6 +6,7 @@ use Rattle.handlebars_helpers.specs.UserAnswers.{HaveOne, UserAnswers, Registrat
 use Rattle.handlebars_html.proofs.CheckedAnswers.{keeps_answers_safe}
 use Rattle.handlebars_laws.proofs.RenamedRuns.{agrees_by_name}
 use Rattle.handlebars_markup.proofs.FixedMarkup.{two_runs}
+use Rattle.handlebars_names.proofs.CheckedAnswers.{keeps_answers_known}
 use Rattle.handlebars.specs.AnswerLaws.{SourceAnswerLaws, NamedAnswerLaws, ObeysLaws, ObeysLawsByName}
 use Rattle.handlebars.specs.Files.{Loaded}
 use Rattle.handlebars.specs.View.{options_of}
@@ -24,6 +25,7 @@ module _ {E : Type 0} (registered : E → Registrations) (user : E → UserAnswe
         stays = answer_stays _ _;
         agree = two_runs _ lawful _ (FromSource-one _ _);
         safe = keeps_answers_safe _ _;
+        known = keeps_answers_known _ _;
         by_name = agrees_by_name _ (options_of r) source;
       }
 
@@ -36,4 +38,5 @@ module _ {E : Type 0} (registered : E → Registrations) (user : E → UserAnswe
         stays = named_answer_stays _ _;
         agree = two_runs _ lawful _ (FromName-one _ _);
         safe = keeps_answers_safe _ _;
+        known = keeps_answers_known _ _;
       }

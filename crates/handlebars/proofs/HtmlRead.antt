@@ -1,5 +1,5 @@
 -- What the check says of the templates of two maps, one overlaid on the other, and of what was read.
-use Rattle.std.proofs.Common.{◌≡◌, cond, is_some, List, [], ◌∷◌, ◌++◌, map, Option, None, Some, Result, String, Global, refl, sym, ap, ◌∙◌, subst}
+use Rattle.std.proofs.Common.{◌≡◌, cond, is_some, List, [], ◌∷◌, ◌++◌, map, Option, None, Result, String, Global, refl, sym, ap, ◌∙◌, subst}
 use Rattle.std.proofs.Math.Logic.{⊎_elim}
 use Rattle.std.proofs.lemmas.List.Elements.{Contains-append_left, Contains-append_right, Contains-append_cases}
 use Rattle.std.specs.BTreeMap.{BTreeMap}
@@ -22,7 +22,7 @@ use Rattle.handlebars_html.specs.declared.search.Verdict.TheVariants as verdict
 use Rattle.handlebars.specs.Dev.{HasRead, HoldsTrees}
 use Rattle.handlebars.specs.Files.{Loaded, overlaid_on, tree_among, tree_in}
 use Rattle.handlebars.specs.Html.{AreInOrder, JudgesHtml, OfSource, SaysHtml, first_unsafe, safety_by, templates_under}
-use Rattle.handlebars.specs.Markup.{AreInByteOrder, AreNamesOf, key_names, uncovered, unread}
+use Rattle.handlebars.specs.Markup.{AreInByteOrder, key_names, uncovered, unread}
 use Rattle.handlebars.specs.Over.{parts_over}
 use Rattle.handlebars.specs.View.{stored_tree}
 use Rattle.handlebars.specs.declared.registry.RegistryOf.{RegistryOf}
@@ -34,7 +34,7 @@ use Rattle.handlebars.proofs.MarkupOrder.{names-of, names-same, names-unread}
 -- ---- the same trees under names
 
 module _ (above others below : Text → Option Tree) (same : (n : Text) → above n ≡ others n) where
-  over-same : (n : Text) → overlaid_on above below n ≡ overlaid_on others below n
+  pub over-same : (n : Text) → overlaid_on above below n ≡ overlaid_on others below n
   over-same n = ap (λ (o : Option Tree). option_or o (below n)) (same n)
 
   under-same : (ns : List Text) → templates_under (overlaid_on above below) ns ≡ templates_under (overlaid_on others below) ns
@@ -43,7 +43,7 @@ module _ (above others below : Text → Option Tree) (same : (n : Text) → abov
       ap (λ (o : Option Tree). with_or o (λ t. (n, t) ∷ []) [] ++ templates_under (overlaid_on above below) ns) (over-same n)
       ∙ ap (λ (xs : List (Text × Tree)). with_or (overlaid_on others below n) (λ t. (n, t) ∷ []) [] ++ xs) (under-same ns)
 
-  in_order-same : (templates : List (Text × Tree)) → AreInOrder above below templates → AreInOrder others below templates
+  pub in_order-same : (templates : List (Text × Tree)) → AreInOrder above below templates → AreInOrder others below templates
   in_order-same templates h = record {
     first = h.first;
     rest = h.rest;

@@ -32,4 +32,5 @@ mod MarkupOrder
 mod MarkupRead
 mod HtmlTemplates
 mod HtmlRead
+mod NamesRead
 mod MetPremises

@@ -12,4 +12,5 @@ pub mod AnswerLaws
 pub mod Readers
 pub mod Markup
 pub mod Html
+pub mod KnownNames
 pub mod Moments

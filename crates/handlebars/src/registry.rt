@@ -20,6 +20,7 @@ mod emitting;
 mod files;
 mod html;
 mod markup;
+mod names;
 mod pieces;
 mod reading;
 mod stored;

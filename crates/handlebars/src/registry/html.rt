@@ -178,7 +178,7 @@ impl<E: UserParts> RegistryOf<E> {
     }
 
     // All templates that were read.
-    fn list_read<'t>(
+    pub(crate) fn list_read<'t>(
         &'t self,
         read: &'t BTreeMap<String, Template>,
         templates: &mut Vec<NamedTemplate<'t>>,
@@ -193,7 +193,7 @@ impl<E: UserParts> RegistryOf<E> {
     }
 
     // All other registered templates.
-    fn list_stored<'t>(
+    pub(crate) fn list_stored<'t>(
         &'t self,
         read: &'t BTreeMap<String, Template>,
         templates: &mut Vec<NamedTemplate<'t>>,
