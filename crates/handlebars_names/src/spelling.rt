@@ -3,7 +3,7 @@
 use handlebars_html::search::NamedTemplate;
 use std::alloc::{AllocError, Global};
 use std::collections::BTreeSet;
-use strsim::levenshtein;
+use strsim::osa_distance;
 
 // A name, with its distance from another one.
 #[derive(Clone, Copy)]
@@ -12,9 +12,9 @@ struct Near<'n> {
     distance: usize,
 }
 
-// How far a name may be from one that is meant.
+// How many letters may be wrong, missing or exchanged: one in three.
 fn most_distance(name: &str) -> usize {
-    name.len() / 3 + 1
+    name.len().max(3) / 3
 }
 
 // The nearer one of a name and of what is nearest so far.
@@ -24,7 +24,7 @@ fn nearer<'n>(
     candidate: &'n str,
     nearest: Option<Near<'n>>,
 ) -> Result<Option<Near<'n>>, AllocError> {
-    let distance = levenshtein(alloc, name, candidate)?;
+    let distance = osa_distance(alloc, name, candidate)?;
     let least = match nearest {
         Some(near) => near.distance,
         None => most_distance(name).saturating_add(1),

@@ -10,29 +10,24 @@ impl NameFaultReason {
             NameFaultReason::MissingHelper(name, _) => {
                 ("there is no helper ", Some(name.as_str()), "")
             }
-            NameFaultReason::MissingParams(name, needed) => (
-                "the helper ",
-                Some(name.as_str()),
-                if *needed == 1 {
-                    " needs a parameter"
-                } else {
-                    " needs two parameters"
-                },
-            ),
+            NameFaultReason::MissingParams(name, 1) => {
+                ("the helper ", Some(name.as_str()), " needs a parameter")
+            }
+            NameFaultReason::MissingParams(name, _) => {
+                ("the helper ", Some(name.as_str()), " needs two parameters")
+            }
             NameFaultReason::MadeName => {
                 ("a name is made when the template is rendered", None, "")
             }
-            NameFaultReason::OtherDecorator(name) => (
-                "there is no decorator ",
-                Some(name.as_str()),
-                " of which it is known what it does",
-            ),
-            NameFaultReason::UnnamedInline => {
+            NameFaultReason::OtherDecorator(name) => {
                 (
-                    "the name of an inline partial is not written as a text",
-                    None,
+                    "nothing is known of the decorator ",
+                    Some(name.as_str()),
                     "",
                 )
+            }
+            NameFaultReason::UnnamedInline => {
+                ("the name of an inline partial is not a text", None, "")
             }
             NameFaultReason::EmptyInline(name) => {
                 ("the inline partial ", Some(name.as_str()), " has no body")
@@ -43,13 +38,9 @@ impl NameFaultReason {
             NameFaultReason::IncludesItself(name) => {
                 ("the template ", Some(name.as_str()), " includes itself")
             }
-            NameFaultReason::MissingBlock => (
-                "there may be no block for `@partial-block`",
-                None,
-                "",
-            ),
+            NameFaultReason::MissingBlock => ("there may be no `@partial-block`", None, ""),
             NameFaultReason::NamedBody(name) => {
-                ("a body has the name ", Some(name.as_str()), " of its own")
+                ("a body has the name ", Some(name.as_str()), "")
             }
         }
     }
@@ -67,23 +58,24 @@ impl NameFaultReason {
     fn advice(&self) -> &'static str {
         match self {
             NameFaultReason::MissingHelper(_, _) => "register it, or write the name of another one",
-            NameFaultReason::MissingParams(_, _) => "write them after its name",
+            NameFaultReason::MissingParams(_, _) => "write what it needs after its name",
             NameFaultReason::MadeName => "write the name, one in each branch of a block",
-            NameFaultReason::OtherDecorator(_) => "write `inline`",
+            NameFaultReason::OtherDecorator(_) => "write `inline`, which is known",
             NameFaultReason::UnnamedInline => "write it in quotes",
             NameFaultReason::EmptyInline(_) => "write it as a block",
             NameFaultReason::MissingPartial(_, _) => {
                 "register it, set it inline wherever this is included, or give the tag a block"
             }
-            NameFaultReason::IncludesItself(_) => "include it in a block, which ends the recursion",
+            NameFaultReason::IncludesItself(_) => "include it in the body of a block",
             NameFaultReason::MissingBlock => {
                 "include this by a tag with a block, or give this tag one"
             }
-            NameFaultReason::NamedBody(_) => "leave the body without a name",
+            NameFaultReason::NamedBody(_) => "leave it without a name",
         }
     }
 }
 
+/// Formats the reason in words for the author of a template.
 impl fmt::Display for NameFaultReason {
     fn fmt<W: fmt::Write>(&self, f: &mut fmt::Formatter<W>) -> fmt::Result {
         let (before, name, after) = self.words();
@@ -95,19 +87,28 @@ impl fmt::Display for NameFaultReason {
         if let Some(near) = self.near() {
             write!(f, ", but there is `{}`", near)?;
         }
-        write!(f, ": {}", self.advice())
+        Ok(())
     }
 }
 
-// The template and the position, as far as they are known.
+impl NameFault {
+    // What has the fault.
+    fn subject(&self) -> &str {
+        match &self.template_name {
+            Some(name) => name.as_str(),
+            None => "template",
+        }
+    }
+}
+
+/// Formats one line: the name of the template (`template` if it has none), the position, if there is one, the reason, and what to
+/// write instead.
 impl fmt::Display for NameFault {
     fn fmt<W: fmt::Write>(&self, f: &mut fmt::Formatter<W>) -> fmt::Result {
-        if let Some(name) = &self.template_name {
-            write!(f, "{}:", name)?;
-        }
+        f.write_str(self.subject())?;
         if let (Some(line), Some(column)) = (self.line_no, self.column_no) {
-            write!(f, "{}:{}: ", line, column)?;
+            write!(f, " line {}, col {}", line, column)?;
         }
-        write!(f, "{}", self.reason)
+        write!(f, ": {}: {}", &self.reason, self.reason.advice())
     }
 }
