@@ -8,6 +8,7 @@ mod html;
 mod line;
 mod markup;
 mod output;
+mod page_names;
 mod parts;
 mod pieces;
 mod rc;
@@ -66,7 +67,7 @@ fn of_group<R: Files + AllocGlobal + Clone + Drop>(
         "error" => error::answer(alloc, &mut state.error, call, step),
         "line" => line::answer(alloc, &mut state.rc, &mut state.out, call, step),
         "rc" | "blocks" => of_context(alloc, state, group, call, step),
-        "render" | "element" | "pieces" | "markup" | "html" => {
+        "render" | "element" | "pieces" | "markup" | "html" | "names" => {
             of_rendering(alloc, state, group, call, step)
         }
         _ => of_values(alloc, group, call, step),
@@ -117,6 +118,7 @@ fn of_rendering(
         "element" => elements::answer(given, &mut state.rc, call, step),
         "pieces" => pieces::answer(given, &mut state.pieces, call, step),
         "html" => html::answer(alloc, given.registry, call, step),
+        "names" => page_names::answer(alloc, given.registry, call, step),
         _ => markup::answer(alloc, given.registry, call, step),
     }
 }

@@ -23,8 +23,9 @@ const NEEDS: &str =
     error.new text; error.strict name; error.at line column; error.in_template name; \
     error.of_template source line column; reason.param_type name type; reason.hash_type name type; \
     reason.nested text; reason.walkdir text; reason.template_io name; reason.json kind text; reason.utf8 kind; \
-    markup.source_faults source; pieces.of_name name; pieces.of_source source; file.write_page path name; \
-    file.read path; file.put path text; file.anew name path; file.as_registered name; output.slow left";
+    markup.source_faults source; names.of_template name; names.of_source source; pieces.of_name name; \
+    pieces.of_source source; file.write_page path name; file.read path; file.put path text; \
+    file.anew name path; file.as_registered name; output.slow left";
 
 /// Returns the first field that the call of a step needs and the step lacks, if there is one.
 pub fn lacking(step: &JsonValue) -> Option<&'static str> {
