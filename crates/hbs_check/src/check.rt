@@ -1,14 +1,14 @@
 //! The report of a run about a template.
 
 ghost use Rattle.std.specs.Prelude.{◌≡◌, ◌&&◌, IfOk, length, nat_eq, not};
-ghost use Rattle.hbs_check.specs.Verdicts.{is_clean};
+ghost use Rattle.hbs_check.specs.Verdicts.{are_known, is_clean};
 
 use crate::failure::Failure;
 use crate::listed::Listed;
 use crate::partials::{Partials, collect};
 use handlebars::{
-    BoxedEntries, DirectorySourceOptions, HtmlFault, HtmlVerdict, MarkupFault, NoFiles, Registry,
-    Template, TemplateReader, UserParts,
+    BoxedEntries, DirectorySourceOptions, HtmlFault, HtmlVerdict, MarkupFault, NameFault,
+    NamesVerdict, NoFiles, Registry, Template, TemplateReader, UserParts,
 };
 use handlebars_markup::check::check_template;
 use std::alloc::Global;
@@ -16,19 +16,30 @@ use std::collections::BTreeSet;
 use std::io;
 use std::io::Write;
 
-/// What is asked for: the paths of a template and perhaps of a folder, whether the mode is strict, and whether it is asked where
-/// data stands in HTML.
+/// What is asked of a template.
+#[derive(Clone, Copy)]
+pub enum Question {
+    /// Whether the markup that it writes is fixed.
+    Markup,
+    /// Whether data stands only where it is harmless in its HTML.
+    Html,
+    /// Whether the names that it uses are known.
+    Names,
+}
+
+/// What is asked for: what of a template, the paths of the template and perhaps of a folder, and whether the mode is strict.
 #[derive(Drop)]
 pub struct Request<'a> {
     pub strict: bool,
-    pub html: bool,
+    pub question: Question,
     pub template: &'a str,
     pub folder: Option<&'a str>,
 }
 
 /// Prints `fixed`, or each location that prevents fixed markup and each call of a partial that is not registered, one a
 /// line. Returns whether it printed `fixed`. If it is asked where data stands in HTML, it prints `safe`, or each fault:
-/// a location where data may stand elsewhere than where it is harmless. The template is read first, then the folder.
+/// a location where data may stand elsewhere than where it is harmless. If it is asked for names, it prints `known`, or each
+/// name that may not stand for anything. The template is read first, then the folder.
 pub fn check<'a, R: TemplateReader, O: Write>(
     alloc: Global,
     task: &Request<'a>,
@@ -41,14 +52,42 @@ pub fn check<'a, R: TemplateReader, O: Write>(
     if let Some(folder) = task.folder {
         register(folder, &mut registry, files)?;
     }
-    let template = compile(alloc, source.as_str())?;
-    let missing = print_missing(alloc, &template, &registry, out)?;
-    if task.html {
-        let verdict = registry.template_html_faults(source.as_str(), &mut NoFiles)?;
-        return print_verdict(&verdict, missing, out);
+    match task.question {
+        Question::Markup => check_markup(alloc, source.as_str(), &registry, out),
+        Question::Html => check_html(alloc, source.as_str(), &registry, out),
+        Question::Names => {
+            print_names(
+                &registry.template_names_are_known(source.as_str(), &mut NoFiles)?,
+                out,
+            )
+        }
     }
-    let faults = find_faults(alloc, &template, &registry)?;
-    print_locations(&faults, missing, out)
+}
+
+fn check_markup<'a, O: Write>(
+    alloc: Global,
+    source: &str,
+    registry: &Registry,
+    out: &mut O,
+) -> Result<bool, Failure<'a>> {
+    let template = compile(alloc, source)?;
+    let missing = print_missing(alloc, &template, registry, out)?;
+    print_locations(&find_faults(alloc, &template, registry)?, missing, out)
+}
+
+fn check_html<'a, O: Write>(
+    alloc: Global,
+    source: &str,
+    registry: &Registry,
+    out: &mut O,
+) -> Result<bool, Failure<'a>> {
+    let template = compile(alloc, source)?;
+    let missing = print_missing(alloc, &template, registry, out)?;
+    print_verdict(
+        &registry.template_html_faults(source, &mut NoFiles)?,
+        missing,
+        out,
+    )
 }
 
 // Registers the templates of a folder. A folder that can't be listed has none for the registry, and is a failure here.
@@ -164,6 +203,39 @@ fn print_verdict<'a, O: Write>(
 }
 
 fn print_faults<'a, O: Write>(faults: &Vec<HtmlFault>, out: &mut O) -> Result<(), Failure<'a>> {
+    for fault in faults {
+        said(writeln!(out, "{fault}"))?;
+    }
+    Ok(())
+}
+
+// Prints all names that may not stand for anything, or that there is none.
+fn print_names<'a, O: Write>(verdict: &NamesVerdict, out: &mut O) -> Result<bool, Failure<'a>>
+    ensures known { IfOk result (λ known. known ≡ are_known verdict.now) }
+{
+    match verdict {
+        NamesVerdict::NoFaults => {
+            said(writeln!(out, "known"))?;
+            Ok(true)
+        }
+        NamesVerdict::Faults(faults) => {
+            print_name_faults(faults, out)?;
+            Ok(false)
+        }
+        NamesVerdict::Undecided => {
+            said(writeln!(
+                out,
+                "undecided: templates include each other in too many ways"
+            ))?;
+            Ok(false)
+        }
+    }
+}
+
+fn print_name_faults<'a, O: Write>(
+    faults: &Vec<NameFault>,
+    out: &mut O,
+) -> Result<(), Failure<'a>> {
     for fault in faults {
         said(writeln!(out, "{fault}"))?;
     }

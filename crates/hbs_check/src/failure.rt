@@ -1,4 +1,4 @@
-//! Why a run can't decide whether the markup is fixed.
+//! Why a run can't decide what it is asked.
 
 ghost use Rattle.std.specs.Prelude.{◌≡◌};
 
@@ -7,7 +7,7 @@ use std::alloc::AllocError;
 use std::io::ErrorKind;
 use std::{fmt, io};
 
-/// Why a run can't decide whether the markup is fixed. The text is a path.
+/// Why a run can't decide what it is asked. The text is a path.
 #[derive(Drop)]
 pub enum Failure<'a> {
     Usage,
@@ -66,7 +66,9 @@ impl From<RenderError> for Failure<'_> {
 impl fmt::Display for Failure<'_> {
     fn fmt<W: fmt::Write>(&self, f: &mut fmt::Formatter<W>) -> fmt::Result {
         match self {
-            Failure::Usage => f.write_str("usage: hbs_check [--strict] [--html] TEMPLATE [FOLDER]"),
+            Failure::Usage => f.write_str(
+                "usage: hbs_check [--strict] [--html | --names] TEMPLATE [FOLDER]",
+            ),
             Failure::CannotRead(path) => write!(f, "hbs_check: cannot read {path}"),
             Failure::CannotList(path) => write!(f, "hbs_check: cannot list {path}"),
             Failure::NotRegistered(cause) => write!(f, "{cause}"),

@@ -1,5 +1,6 @@
-//! `hbs_check [--strict] [--html] TEMPLATE [FOLDER]`: prints whether the markup that a template writes is fixed, whatever the
-//! texts of its data are, or each location that prevents it; or whether data stands only where it is harmless in its HTML.
+//! `hbs_check [--strict] [--html | --names] TEMPLATE [FOLDER]`: prints whether the markup that a template writes is fixed, whatever
+//! the texts of its data are, or each location that prevents it; or whether data stands only where it is harmless in its HTML; or
+//! whether the names that it uses are known.
 #![tactic(auto)]
 
 mod arguments;

@@ -2,18 +2,18 @@
 
 ghost use Rattle.std.specs.Prelude.{◌≡◌, ◌≤◌, IfErr};
 
-use crate::check::{Request, check};
+use crate::check::{Question, Request, check};
 use crate::failure::Failure;
 use handlebars::TemplateReader;
 use std::alloc::Global;
 use std::io::Write;
 
-/// Decides whether the markup of a template is fixed, or whether data stands only where it is harmless in its HTML, and returns
-/// the exit status.
+/// Decides whether the markup of a template is fixed, whether data stands only where it is harmless in its HTML, or whether the
+/// names that it uses are known, and returns the exit status.
 ///
 /// The first argument names the template, and an optional second one a folder of templates. `--strict` before them is accepted
 /// so that the arguments are those of `hbs`. It does not change the result. `--html` before them asks for where data stands in
-/// HTML.
+/// HTML, and `--names` for names.
 ///
 /// The status is 0 if what is asked holds and all partials that are called by fixed names are registered, and 1 if not. It is 2
 /// if this can't be decided: for wrong arguments, for a file that can't be read, for a folder that can't be listed, for a
@@ -58,23 +58,35 @@ fn checked<'a, R: TemplateReader, O: Write>(
     out: &mut O,
 ) -> Result<bool, Failure<'a>> {
     let (strict, arguments) = split_flag(arguments, "--strict");
-    let (html, arguments) = split_flag(arguments, "--html");
+    let (question, arguments) = split_question(arguments);
     let task = match arguments {
         [template] => Request {
             strict,
-            html,
+            question,
             template: template.as_str(),
             folder: None,
         },
         [template, folder] => Request {
             strict,
-            html,
+            question,
             template: template.as_str(),
             folder: Some(folder.as_str()),
         },
         _ => return Err(Failure::Usage),
     };
     check(alloc, &task, files, out)
+}
+
+// What is asked, and the arguments after that.
+fn split_question(arguments: &[String]) -> (Question, &[String]) {
+    match arguments.split_first() {
+        Some((first, rest)) => match first.as_str() {
+            "--html" => (Question::Html, rest),
+            "--names" => (Question::Names, rest),
+            _ => (Question::Markup, arguments),
+        },
+        None => (Question::Markup, arguments),
+    }
 }
 
 // Whether the first argument is this flag, and the others.
