@@ -8,8 +8,8 @@ ghost use Rattle.handlebars_names.specs.Search as search;
 use crate::fault::{Finding, NameFault};
 use crate::known::{Known, Page};
 use crate::round::{are_entered, into_faults, round};
-use crate::scope::Scope;
-use crate::table::{Entry, place_of};
+use crate::search::extend;
+use crate::table::Entry;
 use handlebars_helpers::entries::UserParts;
 use handlebars_html::search::NamedTemplate;
 use std::alloc::{AllocError, Global};
@@ -50,56 +50,7 @@ fn verdict_by(faults: Vec<NameFault>) -> Verdict
     }
 }
 
-// ---- the table
-
-// Keeps of the first what is known in the other too.
-fn meet<'t>(scope: &mut Scope<'t>, other: &Scope<'_>, alloc: Global) -> Result<(), AllocError> {
-    let mut partials = Vec::new(alloc);
-    for partial in &scope.partials {
-        if other.has_partial(partial) {
-            partials.push(*partial)?;
-        }
-    }
-    scope.partials = partials;
-    scope.block = scope.block && other.block;
-    Ok(())
-}
-
-fn enter<'t>(
-    name: &str,
-    scope: &Scope<'t>,
-    alloc: Global,
-    table: &mut Vec<Entry<'t>>,
-) -> Result<(), AllocError> {
-    match place_of(table, name) {
-        Some(place) => match table.get_mut(place) {
-            Some(entry) => meet(&mut entry.scope, scope, alloc),
-            None => Ok(()),
-        },
-        None => {
-            table.push(Entry {
-                name: String::from_str(alloc, name)?,
-                scope: scope.copy(alloc, scope.block)?,
-            })?;
-            Ok(())
-        }
-    }
-}
-
-fn enter_all<'t>(
-    findings: &[Finding<'t>],
-    alloc: Global,
-    table: &mut Vec<Entry<'t>>,
-) -> Result<(), AllocError> {
-    for finding in findings {
-        if let Finding::Includes(name, scope) = finding {
-            enter(name.as_str(), scope, alloc, table)?;
-        }
-    }
-    Ok(())
-}
-
-// ---- the search
+// ---- what is said
 
 // Returns what is said by this table, if it is closed. Otherwise adds what is included to it.
 fn decide<'t, E: UserParts>(
@@ -124,7 +75,7 @@ fn decide<'t, E: UserParts>(
         let faults = into_faults(findings, checked.alloc)?;
         return Ok(Some(verdict_by(faults)));
     }
-    enter_all(&findings, checked.alloc, table)?;
+    extend(checked, entries, helpers, &findings, table)?;
     Ok(None)
 }
 

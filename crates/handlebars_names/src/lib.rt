@@ -11,6 +11,7 @@ mod location;
 mod parameters;
 mod round;
 pub mod scope;
+mod search;
 mod spelling;
 mod table;
 mod tag;
