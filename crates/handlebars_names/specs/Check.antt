@@ -60,7 +60,8 @@ module _ (has_template : Text → Bool) (h : Scope) where
   abbrev pub is_there : Text → Bool
   is_there m = is_one_of h.partials m || has_template m
 
-  -- A tag without a block fails where there may be no captured block, or no partial.
+  -- A tag without a block fails where there may be no captured block, or no partial. A name that is computed, and the template
+  -- itself, are faults with a block too.
   abbrev pub whys_of_included : Included → Body → List Why
   whys_of_included made b = made_name ∷ []
   whys_of_included (itself m) b = includes_itself m ∷ []
@@ -110,7 +111,7 @@ module _ (names : Names) (table : List Entry) (t : Option Text) where
     body_findings p no_body h = []
     body_findings p (body x) h = faults_at t p (whys_of_body_name (tree_name x)) ++ tree_findings x h
 
-    -- The body of an inline partial is rendered where its name is included.
+    -- The body of an inline partial is read by what the table has of its name. It isn't read where the table doesn't have it.
     pub decorator_findings : Option Position → Decorator → List Finding
     decorator_findings p (decorator n xs b marks) =
         faults_at t p (whys_of_decorator names (decorator n xs b marks))

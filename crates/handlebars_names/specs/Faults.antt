@@ -5,13 +5,13 @@ use Rattle.handlebars_template.specs.Position.{Position}
 use Rattle.handlebars_names.specs.Scopes.{Scope}
 
 -- Why a name isn't known:
--- - a call has no helper, and there is no hook, and it is no section;
--- - a built-in helper needs more parameters, this many;
+-- - a call has no helper, and there is no hook, and it is no section and no expression without arguments;
+-- - a built-in helper needs this many parameters, and has fewer;
 -- - a name is made when the template is rendered;
 -- - a tag has no decorator, or a user-defined one, which may change what names stand for;
 -- - the name of an inline partial isn't written as a text;
 -- - an inline partial has no body;
--- - a partial isn't registered, isn't set where it is included, and its tag has no block;
+-- - a partial isn't registered, may not be set where it is included, and its tag has no block; or a page isn't registered;
 -- - a template includes itself;
 -- - `@partial-block` stands where no block may have been captured, and its tag has none;
 -- - a body has a name of its own, as only a hand-built template has.

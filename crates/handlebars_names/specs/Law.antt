@@ -14,7 +14,7 @@ use Rattle.handlebars_names.specs.Names.{Names, AreNames}
 use Rattle.handlebars_names.specs.Scopes.{Scope, first_scope, covers, Entry, scope_at}
 
 -- Why a rendering may fail though all names are known: the inclusion limit is reached; a name that isn't an index leads into an array; in
--- strict mode a value is missing; the level of `log` is none; or a user-defined helper or escape function fails.
+-- strict mode a value or a parameter is missing; the level of `log` is none; or a user-defined helper or escape function fails.
 pub data IsStillPossible (p : Parts) : Reason → Type 0 where
   for_limit : IsStillPossible p (inclusion_limit p.limit)
   for_index : {n : Text} → IsStillPossible p (invalid_json_index n)
@@ -46,8 +46,8 @@ abbrev pub AreFineUnder : Names → List Entry → (Text → Option Tree) → Ty
 AreFineUnder names table trees = (n : Text) (t : Tree) → trees n ≡ Some t → (h : Scope) → scope_at table n ≡ Some h
     → (at : Option Text) × AreFine table (tree_findings names table at t h)
 
--- Where the names of a page and of all templates are known, by a table, each of its renderings, whatever the data, fails only
--- so.
+-- Where the names are known of a page and of all templates that a table has, each rendering of the page, whatever the data,
+-- fails only so.
 abbrev pub KnownNamesFailOnlySo : Setting → Type 0
 KnownNamesFailOnlySo p =
     (names : Names) → AreNames p.parts names → PassNoPartials p.parts → (table : List Entry) → AreFineUnder names table p.parts.template

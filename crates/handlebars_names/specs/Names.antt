@@ -14,7 +14,7 @@ pub record Names : Type 0 where
   pub sections : Bool
   pub has_template : Text → Bool
 
--- These parts have it so.
+-- These parts have the same helpers, decorators and sections, and at least these templates.
 pub record AreNames (parts : Parts) (names : Names) : Type 0 where
   pub helpers : (n : Text) → parts.helper n ≡ names.helper n
   pub decorators : (n : Text) → parts.decorator n ≡ names.decorator n

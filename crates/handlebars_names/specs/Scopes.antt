@@ -1,4 +1,4 @@
--- What is known where an element is rendered: which inline partials can be found there.
+-- What is known where an element is rendered: which inline partials can be found there, and whether a block was captured.
 use Rattle.std.specs.Prelude.{ℕ, zero, suc, Bool, false, not, ◌&&◌, ◌||◌, if◌then◌else◌, List, [], ◌∷◌, ◌++◌, Option, None, Some}
 use Rattle.std.specs.List.{list_all}
 use Rattle.std.specs.Str.{bytes_eq}
@@ -27,7 +27,7 @@ covers h g = list_all (is_one_of g.partials) h.partials && (not h.block || g.blo
 
 -- ---- what elements set
 
--- The tag of an inline partial sets it, if its name is written.
+-- The tag of an inline partial sets it, if its name is written. Any decorator's tag counts as one: another decorator is a fault.
 abbrev pub after_decorator : Decorator → Scope → Scope
 after_decorator (decorator n xs b marks) h = with_or (inline_name xs) (λ m. record h { partials = h.partials ++ m ∷ [] }) h
 

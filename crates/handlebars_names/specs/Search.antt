@@ -1,4 +1,4 @@
--- The search for a table by which the names of a page are known, and what it says.
+-- A round of the check, its verdicts, and the law.
 use Rattle.std.specs.Prelude.{◌≡◌, ◌≢◌, Bool, true, false, if◌then◌else◌, List, [], ◌∷◌, ◌++◌, Option, None, Some}
 use Rattle.std.specs.List.{list_all}
 use Rattle.handlebars_base.specs.Bytes.{Text}
@@ -36,7 +36,7 @@ module _ (names : Names) (table : List Entry) where
   templates_findings [] = []
   templates_findings (x ∷ xs) = findings_under (scope_at table x.0) x.0 x.1 ++ templates_findings xs
 
-  -- first the page, and then all templates
+  -- First the page, and then all templates. A page by its name is read among them.
   abbrev pub round : List (Text × Tree) → Page → List Finding
   round templates page = page_findings page ++ templates_findings templates
 
@@ -47,7 +47,7 @@ faults_among [] = []
 faults_among (fault x ∷ xs) = x ∷ faults_among xs
 faults_among (includes n h ∷ xs) = faults_among xs
 
--- What is included is in the table, which says no more than is known there.
+-- A fault counts as entered. A name that is included is in the table, which says no more than is known there.
 abbrev pub is_entered : List Entry → Finding → Bool
 is_entered table (fault x) = true
 is_entered table (includes n h) = with_or (scope_at table n) (λ g. covers g h) false

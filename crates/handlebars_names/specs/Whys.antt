@@ -56,14 +56,14 @@ abbrev pub is_identifier : Text → Bool
 is_identifier [] = false
 is_identifier (b ∷ bs) = list_all is_symbol (b ∷ bs)
 
--- a name that leads to a value
+-- a name that can be read as a path; whether a value is there isn't asked
 abbrev pub leads_to_value : Param → Bool
 leads_to_value (name n) = is_identifier n
 leads_to_value (path r) = true
 leads_to_value (literal d) = false
 leads_to_value (subexpression e) = false
 
--- What is called by this name with these parameters; or there is no helper.
+-- What is wrong with a call of this helper by this name with these parameters; `without`, if there is none.
 abbrev pub whys_of_helper : Option Callee → Text → Params → List Why → List Why
 whys_of_helper None n ps without = without
 whys_of_helper (Some (built kind)) n ps without = whys_of_params n kind ps
@@ -81,7 +81,8 @@ whys_of_kind None m n b = other_decorator m ∷ []
 whys_of_kind (Some kind_inline) m n b = whys_of_inline n b
 whys_of_kind (Some (kind_user called)) m n b = other_decorator m ∷ []
 
--- A name alone is a value, and a block by such a name is a section, if sections are allowed. Any other call needs a helper.
+-- An expression without arguments is a value. A block without arguments is a section, if sections are allowed and its name is a
+-- path or an identifier. Any other call needs a helper.
 abbrev pub needs_helper : Bool → Bool → Call → Bool
 needs_helper sections block c =
     not (is_lone block c || ((sections && (block && is_value c)) && leads_to_value (call_name c)))

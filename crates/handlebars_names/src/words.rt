@@ -17,11 +17,15 @@ impl NameFaultReason {
                 ("the helper ", Some(name.as_str()), " needs two parameters")
             }
             NameFaultReason::MadeName => {
-                ("a name is made when the template is rendered", None, "")
+                (
+                    "the name is computed when the template is rendered",
+                    None,
+                    "",
+                )
             }
             NameFaultReason::OtherDecorator(name) => {
                 (
-                    "nothing is known of the decorator ",
+                    "the check allows only the decorator `inline`, not ",
                     Some(name.as_str()),
                     "",
                 )
@@ -40,7 +44,11 @@ impl NameFaultReason {
             }
             NameFaultReason::MissingBlock => ("there may be no `@partial-block`", None, ""),
             NameFaultReason::NamedBody(name) => {
-                ("a body has the name ", Some(name.as_str()), "")
+                (
+                    "a body of a hand-built template has the name ",
+                    Some(name.as_str()),
+                    "",
+                )
             }
         }
     }
@@ -59,8 +67,10 @@ impl NameFaultReason {
         match self {
             NameFaultReason::MissingHelper(_, _) => "register it, or write the name of another one",
             NameFaultReason::MissingParams(_, _) => "write what it needs after its name",
-            NameFaultReason::MadeName => "write the name, one in each branch of a block",
-            NameFaultReason::OtherDecorator(_) => "write `inline`, which is known",
+            NameFaultReason::MadeName => {
+                "write each name out, for example in the branches of `{{#if}}`"
+            }
+            NameFaultReason::OtherDecorator(_) => "remove the tag, or write `inline`",
             NameFaultReason::UnnamedInline => "write it in quotes",
             NameFaultReason::EmptyInline(_) => "write it as a block",
             NameFaultReason::MissingPartial(_, _) => {
@@ -70,7 +80,7 @@ impl NameFaultReason {
             NameFaultReason::MissingBlock => {
                 "include this by a tag with a block, or give this tag one"
             }
-            NameFaultReason::NamedBody(_) => "leave it without a name",
+            NameFaultReason::NamedBody(_) => "remove that name",
         }
     }
 }

@@ -23,13 +23,16 @@ use std::alloc::AllocError;
 use std::collections::BTreeMap;
 
 impl<E: UserParts> RegistryOf<E> {
-    /// Returns what the check of names says of what is rendered by this name: that there is no fault, or all faults, or that
-    /// the search went too far. A fault is a name that may not stand for anything. In dev mode the files of templates are
-    /// read anew, as for a rendering. If there is no fault, a rendering fails only for the inclusion limit, a name that is no
-    /// index, strict mode, the level of `log`, user-defined parts, writers and memory.
+    /// Returns what the check of names says of what is rendered by this name: that there is no fault, or the faults that it
+    /// finds, or that it was given up and nothing is known. A fault is a name that may not stand for anything; so is the name of
+    /// the page, if no template has it. In dev mode the files of templates are read anew, as for a rendering.
     ///
-    /// First come the faults of the page, then those of templates in byte order of name, with those that dev mode read anew
-    /// before others, each in the order of its source.
+    /// If there is no fault, a rendering of the same templates fails only for the inclusion limit, a name that is no index,
+    /// strict mode, the level of `log`, user-defined parts, writers and memory. No user-defined helper may render its body in
+    /// a scope frame with inline partials of its own.
+    ///
+    /// Faults come in the order of templates, which is the byte order of name, with those that dev mode read anew before
+    /// others, and within one in the order of its source.
     ///
     /// # Errors
     ///
@@ -52,7 +55,7 @@ impl<E: UserParts> RegistryOf<E> {
     }
 
     /// Returns what the check of names says of what a source renders, as [`RegistryOf::names_are_known`] does of what is
-    /// rendered by a name.
+    /// rendered by a name. The faults of the source come first.
     ///
     /// # Errors
     ///
