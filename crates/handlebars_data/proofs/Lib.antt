@@ -1,0 +1,14 @@
+pub mod JsonReadings
+pub mod JsonAgreement
+pub mod JsonRests
+pub mod SpelledOut
+pub mod JsonTexts
+pub mod LineReads
+pub mod LineTexts
+pub mod Puts
+pub mod RowFields
+pub mod Settings
+pub mod TableReads
+pub mod TomlScans
+pub mod TomlItems
+pub mod MergedKeys
