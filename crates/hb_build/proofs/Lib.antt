@@ -1,0 +1,17 @@
+pub mod FirstPass
+pub mod Folders
+pub mod Gets
+pub mod Numbering
+pub mod NamesOf
+pub mod FolderNames
+pub mod Ways
+pub mod Bytes
+pub mod Making
+pub mod Placing
+pub mod Each
+pub mod Written
+pub mod SecondPass
+pub mod OneItem
+pub mod Counting
+pub mod Stops
+pub mod Totals
