@@ -89,6 +89,15 @@ impl Context {
         &self.value
     }
 
+    /// Returns the data, and no copy of it.
+    pub fn into_data(self) -> Json
+        ensures value { view result ≡ data_of self }
+        ensures in_range { has_float (view result) ≡ false }
+    {
+        let Context { value } = self;
+        value
+    }
+
     /// Returns a copy of the context.
     ///
     /// # Errors
