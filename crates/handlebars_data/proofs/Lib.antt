@@ -6,7 +6,9 @@ pub mod JsonTexts
 pub mod LineReads
 pub mod LineTexts
 pub mod Puts
+pub mod RowErrors
 pub mod RowFields
+pub mod RowsAgain
 pub mod Settings
 pub mod TableReads
 pub mod TomlScans

@@ -8,9 +8,10 @@ use Rattle.std.proofs.lemmas.List.Sums.{prefix_len-le-length}
 use Rattle.serde_json.specs.View.{view}
 use Rattle.serde_json.specs.declared.value.Value.{Value}
 use Rattle.std.proofs.lemmas.Bool.{lt-ltb, ltb-true, ltb-false}
+use Rattle.handlebars_data.specs.Counts.{counted}
 use Rattle.handlebars_data.specs.Errors.{kind_of}
 use Rattle.handlebars_data.specs.JsonText.{text_data}
-use Rattle.handlebars_data.specs.Lines.{is_newline, is_blank, texts_in, TakesText, IsNextValue}
+use Rattle.handlebars_data.specs.Lines.{is_newline, is_blank, texts_in, below_lines, TakesText, IsNextText, IsNextValue}
 use Rattle.handlebars_data.specs.Stopping.{stops_reading}
 use Rattle.handlebars_data.specs.declared.error.DataError.{DataError}
 use Rattle.handlebars_data.specs.declared.json_text.Numbers.{Numbers}
@@ -81,57 +82,83 @@ first_at false xs is = no_newline xs (omega (arith, ltb-false _ _ is, prefix_len
 pub texts-first : (xs : List ℕ) → texts_in xs ≡ texts_of (before_first is_newline xs ∷ slice_split is_newline (after_first is_newline xs))
 texts-first xs = first_at _ xs refl
 
--- what is left has the texts of the whole
-abbrev pub HasTexts : List ℕ → Option (List ℕ) → Type 0
-HasTexts bytes left = (rest : List ℕ) × (left ≡ Some rest) × (texts_in bytes ≡ texts_in rest)
+-- What is left has the texts of the whole, after some blank lines. Of the text `counts` lines were taken before these, and `count`
+-- with them, which is said of one more line: that number is in range.
+abbrev pub HasTexts : List ℕ → ℕ → ℕ → Option (List ℕ) → Type 0
+HasTexts bytes counts count left =
+    (blanks : ℕ) × (left ≡ Some (below_lines blanks bytes)) × (texts_in bytes ≡ texts_in (below_lines blanks bytes)) × (counted (count + 1) ≡ counted (counts + blanks + 1))
 
-pub has_all : (left : Option (List ℕ)) → IfSome left (λ bytes. HasTexts bytes left)
-has_all None = tt
-has_all (Some bytes) = (bytes, refl, refl)
+pub has_all : (counts : ℕ) (left : Option (List ℕ)) → IfSome left (λ bytes. HasTexts bytes counts counts left)
+has_all counts None = tt
+has_all counts (Some bytes) = (0, refl, refl, ap counted (omega arith))
+
+pub counted-next : (n : ℕ) → counted (counted n + 1) ≡ counted (n + 1)
+counted-next n = omega arith
+
+one_more : (n m k : ℕ) → counted (n + 1) ≡ counted (m + k + 1) → counted (counted (n + 1) + 1) ≡ counted (m + suc k + 1)
+one_more n m k is = ap (λ c. counted (c + 1)) is ∙ counted-next (m + k + 1) ∙ ap counted (omega arith)
 
 -- a line that was taken: the texts before are its own, if it has one, and those that are left
-taken_of : (bytes line : List ℕ) (left after : Option (List ℕ)) → HasTexts bytes left → IfSome left (λ xs. TakesLine true xs line after)
-    → (rest : List ℕ) × (after ≡ Some rest) × (texts_in bytes ≡ texts_of (line ∷ slice_split is_newline rest))
-taken_of bytes line left after so_far taken =
+taken_of : (bytes line : List ℕ) (counts count : ℕ) (left after : Option (List ℕ)) → (h : HasTexts bytes counts count left) → IfSome left (λ xs. TakesLine true xs line after)
+    → (line ≡ before_first is_newline (below_lines h.0 bytes)) × (after ≡ Some (after_first is_newline (below_lines h.0 bytes)))
+    × (texts_in bytes ≡ texts_of (line ∷ slice_split is_newline (after_first is_newline (below_lines h.0 bytes))))
+taken_of bytes line counts count left after so_far taken =
     let here = rw so_far.1 at taken in
-    (after_first is_newline so_far.0, here.1, so_far.2 ∙ texts-first so_far.0 ∙ ap (λ l. texts_of (l ∷ slice_split is_newline (after_first is_newline so_far.0))) (sym here.0))
+    (here.0, here.1, so_far.2 ∙ texts-first (below_lines so_far.0 bytes) ∙ ap (λ l. texts_of (l ∷ slice_split is_newline (after_first is_newline (below_lines so_far.0 bytes)))) (sym here.0))
 
-pub blank_taken : (old left after : Option (List ℕ)) (line : List ℕ) (found : Bool) → found ≡ true → IfSome old (λ bytes. HasTexts bytes left)
-    → IfSome left (λ xs. TakesLine found xs line after) → is_blank line ≡ true → IfSome old (λ bytes. HasTexts bytes after)
-blank_taken old left after line false is so_far taken blank = absurd (cc)
-blank_taken None left after line true is so_far taken blank = tt
-blank_taken (Some bytes) left after line true is so_far taken blank =
-    let t = taken_of bytes line left after so_far taken in
-    (t.0, t.1, t.2 ∙ ap (λ b. cond (not b) (line ∷ texts_in t.0) (texts_in t.0)) blank)
+pub blank_taken : (counts count next : ℕ) (old left after : Option (List ℕ)) (line : List ℕ) (found : Bool) → found ≡ true → IfSome old (λ bytes. HasTexts bytes counts count left)
+    → IfSome left (λ xs. TakesLine found xs line after) → is_blank line ≡ true → next ≡ counted (count + 1) → IfSome old (λ bytes. HasTexts bytes counts next after)
+blank_taken counts count next old left after line false is so_far taken blank one = absurd (cc)
+blank_taken counts count next None left after line true is so_far taken blank one = tt
+blank_taken counts count next (Some bytes) left after line true is so_far taken blank one =
+    let t = taken_of bytes line counts count left after so_far taken in (
+      suc so_far.0,
+      t.1,
+      t.2 ∙ ap (λ b. cond (not b) (line ∷ texts_in (after_first is_newline (below_lines so_far.0 bytes))) (texts_in (after_first is_newline (below_lines so_far.0 bytes)))) blank,
+      ap (λ c. counted (c + 1)) one ∙ one_more count counts so_far.0 so_far.3,
+    )
 
-text_taken : (bytes line : List ℕ) (left after : Option (List ℕ)) → HasTexts bytes left → IfSome left (λ xs. TakesLine true xs line after)
-    → is_blank line ≡ false → TakesText bytes line after
-text_taken bytes line left after so_far taken full =
-    let t = taken_of bytes line left after so_far taken in
-    (t.0, t.1, t.2 ∙ ap (λ b. cond (not b) (line ∷ texts_in t.0) (texts_in t.0)) full)
+text_taken : (counts count next : ℕ) (bytes line : List ℕ) (left after : Option (List ℕ)) → HasTexts bytes counts count left → IfSome left (λ xs. TakesLine true xs line after)
+    → is_blank line ≡ false → next ≡ counted (count + 1) → TakesText bytes counts next line after
+text_taken counts count next bytes line left after so_far taken full one =
+    let t = taken_of bytes line counts count left after so_far taken in (
+      so_far.0,
+      after_first is_newline (below_lines so_far.0 bytes),
+      t.1,
+      t.2 ∙ ap (λ b. cond (not b) (line ∷ texts_in (after_first is_newline (below_lines so_far.0 bytes))) (texts_in (after_first is_newline (below_lines so_far.0 bytes)))) full,
+      t.0,
+      refl,
+      one ∙ so_far.3,
+    )
 
-pub value_taken : (old left after : Option (List ℕ)) (line : List ℕ) (found : Bool) (numbers given : Numbers) (v : Value) → found ≡ true → IfSome old (λ bytes. HasTexts bytes left)
-    → IfSome left (λ xs. TakesLine found xs line after) → is_blank line ≡ false → given ≡ numbers → text_data given line ≡ Some (view v)
-    → IfSome old (λ bytes. IsNextValue numbers bytes after (Ok (Some v)))
-value_taken old left after line false numbers given v is so_far taken full same read = absurd (cc)
-value_taken None left after line true numbers given v is so_far taken full same read = tt
-value_taken (Some bytes) left after line true numbers given v is so_far taken full same read =
-    (line, text_taken bytes line left after so_far taken full, ap (λ n. text_data n line) (sym same) ∙ read)
+pub text_found : (counts count next : ℕ) (old left after : Option (List ℕ)) (line : List ℕ) (found : Bool) → found ≡ true → IfSome old (λ bytes. HasTexts bytes counts count left)
+    → IfSome left (λ xs. TakesLine found xs line after) → is_blank line ≡ false → next ≡ counted (count + 1) → IfSome old (λ bytes. TakesText bytes counts next line after)
+text_found counts count next old left after line false is so_far taken full one = absurd (cc)
+text_found counts count next None left after line true is so_far taken full one = tt
+text_found counts count next (Some bytes) left after line true is so_far taken full one = text_taken counts count next bytes line left after so_far taken full one
 
-pub refused_taken : (old left after : Option (List ℕ)) (line : List ℕ) (found : Bool) (numbers given : Numbers) (e : DataError) → found ≡ true → IfSome old (λ bytes. HasTexts bytes left)
-    → IfSome left (λ xs. TakesLine found xs line after) → is_blank line ≡ false → given ≡ numbers
-    → (stops_reading (kind_of e) ≡ false → ¬ IsUtf8 line ⊎ (text_data given line ≡ None))
-    → IfSome old (λ bytes. IsNextValue numbers bytes after (Err e))
-refused_taken old left after line false numbers given e is so_far taken full same why = absurd (cc)
-refused_taken None left after line true numbers given e is so_far taken full same why = tt
-refused_taken (Some bytes) left after line true numbers given e is so_far taken full same why =
-    let P : Numbers → Type 0 = λ n. ¬ IsUtf8 line ⊎ (text_data n line ≡ None) in
-    λ goes_on. (line, text_taken bytes line left after so_far taken full, subst P same (why goes_on))
-
-pub none_left : (old left after : Option (List ℕ)) (line : List ℕ) (found : Bool) → found ≡ false → IfSome old (λ bytes. HasTexts bytes left)
+pub none_left : (counts count : ℕ) (old left after : Option (List ℕ)) (line : List ℕ) (found : Bool) → found ≡ false → IfSome old (λ bytes. HasTexts bytes counts count left)
     → IfSome left (λ xs. TakesLine found xs line after) → IfSome old (λ bytes. texts_in bytes ≡ [])
-none_left old left after line true is so_far taken = absurd (cc)
-none_left None left after line false is so_far taken = tt
-none_left (Some bytes) left after line false is so_far taken =
+none_left counts count old left after line true is so_far taken = absurd (cc)
+none_left counts count None left after line false is so_far taken = tt
+none_left counts count (Some bytes) left after line false is so_far taken =
     let here = rw so_far.1 at taken in
     so_far.2 ∙ ap texts_in here
+
+-- ---- the value of a line that was taken
+
+pub value_read : (counts count : ℕ) (old left : Option (List ℕ)) (line : List ℕ) (found : Bool) (numbers given : Numbers) (v : Value) → found ≡ true
+    → IfSome old (λ bytes. IsNextText bytes counts count line left (Ok found)) → given ≡ numbers → text_data given line ≡ Some (view v)
+    → IfSome old (λ bytes. IsNextValue numbers bytes counts count left (Ok (Some v)))
+value_read counts count old left line false numbers given v is taken same read = absurd (cc)
+value_read counts count None left line true numbers given v is taken same read = tt
+value_read counts count (Some bytes) left line true numbers given v is taken same read = (line, taken, ap (λ n. text_data n line) (sym same) ∙ read)
+
+pub value_refused : (counts count : ℕ) (old left : Option (List ℕ)) (line : List ℕ) (found : Bool) (numbers given : Numbers) (e : DataError) → found ≡ true
+    → IfSome old (λ bytes. IsNextText bytes counts count line left (Ok found)) → given ≡ numbers
+    → (stops_reading (kind_of e) ≡ false → ¬ IsUtf8 line ⊎ (text_data given line ≡ None)) → IfSome old (λ bytes. IsNextValue numbers bytes counts count left (Err e))
+value_refused counts count old left line false numbers given e is taken same why = absurd (cc)
+value_refused counts count None left line true numbers given e is taken same why = tt
+value_refused counts count (Some bytes) left line true numbers given e is taken same why =
+    let P : Numbers → Type 0 = λ n. ¬ IsUtf8 line ⊎ (text_data n line ≡ None) in
+    λ goes_on. (line, taken, subst P same (why goes_on))

@@ -1,12 +1,16 @@
 -- The lines of a text, one after another, and their values.
-use Rattle.std.proofs.Common.{◌≡◌, ℕ, ◌+◌, ◌<◌, List, [], ◌∷◌, ◌++◌, length, map, filter, Bool, true, false, not, cond, Option, Some, None, option_map, option_and_then, refl, sym, ap, ◌∙◌, arith}
+use Rattle.std.proofs.Common.{◌≡◌, ℕ, ◌+◌, ◌<◌, List, [], ◌∷◌, ◌++◌, length, map, filter, Bool, true, false, not, cond, All, Option, IsSome, Some, None, option_map, option_and_then, refl, sym, ap, ◌∙◌, arith}
 use Rattle.std.specs.List.{slice_split, onto_first, position_or_len, before_first, after_first}
-use Rattle.std.proofs.lemmas.List.{map-append}
+use Rattle.std.proofs.lemmas.List.{append_assoc, length_push, map-append}
+use Rattle.std.proofs.lemmas.List.Elements.{All-push}
 use Rattle.std.proofs.lemmas.List.Splits.{slice_split_first}
 use Rattle.serde_json.specs.Data.{Data, Items, no_items, item}
 use Rattle.serde_json.specs.View.{items_of, view}
 use Rattle.serde_json.specs.declared.value.Value.{Value}
-use Rattle.handlebars_data.specs.Lines.{is_newline, is_blank, texts_in, values_of, line_values}
+use Rattle.handlebars_data.specs.Counts.{counted}
+use Rattle.handlebars_data.specs.JsonText.{text_data}
+use Rattle.handlebars_data.specs.declared.json_text.Numbers.{Numbers}
+use Rattle.handlebars_data.specs.Lines.{HasBadLine, is_newline, is_blank, texts_in, values_of, line_values}
 
 -- the lines that aren't blank
 abbrev pub texts_of : List (List ℕ) → List (List ℕ)
@@ -114,6 +118,43 @@ module _ (read : List ℕ → Option Data) where
   last_refused xs text all there value so_far =
       let split = last_of_text text there in
       sym so_far ∙ rw (split, refused_line text [] value)
+
+-- ---- the number of a line
+
+-- the lines of a text before the rest have values, and the next one has this number
+abbrev pub Passed : (List ℕ → Option Data) → List ℕ → List ℕ → ℕ → Type 0
+Passed read text rest number =
+    (before : List (List ℕ)) × (slice_split is_newline text ≡ before ++ slice_split is_newline rest) × All (λ l. IsSome (line_values read l)) before
+    × (number ≡ counted (length before + 1))
+
+pub none_passed : (read : List ℕ → Option Data) (text : List ℕ) → Passed read text text 1
+none_passed read text = ([], refl, λ k d below. absurd (omega arith), refl)
+
+has_value : (o : Option (List Data)) (ds : List Data) → o ≡ Some ds → IsSome o
+has_value o ds is = rw is
+
+counted-next : (n : ℕ) → counted (counted n + 1) ≡ counted (n + 1)
+counted-next n = omega arith
+
+pub one_passed : (read : List ℕ → Option Data) (text rest line after : List ℕ) (ds : List Data) (number next : ℕ) → position_or_len is_newline rest < length rest
+    → line ≡ before_first is_newline rest → after ≡ after_first is_newline rest → line_values read line ≡ Some ds → next ≡ counted (number + 1)
+    → Passed read text rest number → Passed read text after next
+one_passed read text rest line after ds number next there first second value one p = (
+  p.0 ++ line ∷ [],
+  p.1 ∙ ap (λ lines. p.0 ++ lines) (first_of_text rest line after there first second) ∙ sym (append_assoc p.0 (line ∷ []) (slice_split is_newline after)),
+  All-push (λ l. IsSome (line_values read l)) p.0 line p.2 (has_value _ ds value),
+  one ∙ ap (λ n. counted (n + 1)) p.3 ∙ counted-next (length p.0 + 1) ∙ ap (λ n. counted (n + 1)) (sym (length_push p.0 line)),
+)
+
+pub bad_line : (numbers : Numbers) (text rest line after : List ℕ) (number n : ℕ) → position_or_len is_newline rest < length rest
+    → line ≡ before_first is_newline rest → after ≡ after_first is_newline rest → (line_values (text_data numbers) line ≡ None) × (n ≡ number)
+    → Passed (text_data numbers) text rest number → HasBadLine numbers text n
+bad_line numbers text rest line after number n there first second bad p =
+    (p.0, line, slice_split is_newline after, p.1 ∙ ap (λ lines. p.0 ++ lines) (first_of_text rest line after there first second), p.2, bad.0, bad.1 ∙ p.3)
+
+pub last_bad : (numbers : Numbers) (text rest : List ℕ) (number n : ℕ) → position_or_len is_newline rest ≡ length rest → (line_values (text_data numbers) rest ≡ None) × (n ≡ number)
+    → Passed (text_data numbers) text rest number → HasBadLine numbers text n
+last_bad numbers text rest number n there bad p = (p.0, rest, [], p.1 ∙ ap (λ lines. p.0 ++ lines) (last_of_text rest there), p.2, bad.0, bad.1 ∙ p.3)
 
 pub map-push : (new old : List Value) (v : Value) → new ≡ old ++ v ∷ [] → map view new ≡ map view old ++ view v ∷ []
 map-push new old v is = ap (map view) is ∙ map-append view old (v ∷ [])

@@ -60,12 +60,17 @@ set_value-put k [] w sorted found = absurd (true≢false (sym found))
 set_value-put k (e ∷ es) w sorted found =
     set_value-put_at _ k e es w refl sorted.0 found (set_value-put k es w sorted.1)
 
+-- a value that was found and written over
+pub written_over : (k : List ℕ) (es new : List Entry) (v w : Value) (d : Data) → IsStrictlySortedBy string_cmp (keys_of es) → Some v ≡ lookup (is_at (at_text k)) es
+    → view w ≡ d → new ≡ set_value (is_at (at_text k)) es w → members_view new ≡ put k d (members_view es)
+written_over k es new v w d sorted found made is =
+    ap members_view is ∙ set_value-put k es w sorted (ap is_some (sym found)) ∙ ap (λ e. put k e (members_view es)) made
+
 -- a value that was found and taken leaves null
 pub taken_from : (k : List ℕ) (es new : List Entry) (v w : Value) → IsStrictlySortedBy string_cmp (keys_of es) → Some v ≡ lookup (is_at (at_text k)) es
     → view w ≡ null → new ≡ set_value (is_at (at_text k)) es w → members_view new ≡ without_value k (members_view es)
 taken_from k es new v w sorted found left is =
-    let written : members_view new ≡ put k null (members_view es) =
-    ap members_view is ∙ set_value-put k es w sorted (ap is_some (sym found)) ∙ ap (λ d. put k d (members_view es)) left in
+    let written : members_view new ≡ put k null (members_view es) = written_over k es new v w null sorted found left is in
     rw (written, ← view-lookup k es, ← found)
 
 -- where none is found, none is taken

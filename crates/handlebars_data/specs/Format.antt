@@ -45,5 +45,5 @@ abbrev pub HasNoData : Format → Numbers → List ℕ → Type 0
 HasNoData Json numbers bytes = ¬ IsUtf8 bytes ⊎ (text_data numbers bytes ≡ None)
 HasNoData JsonLines numbers bytes = ¬ IsUtf8 bytes ⊎ (lines_data numbers bytes ≡ None)
 HasNoData Toml numbers bytes = ¬ IsUtf8 bytes ⊎ (toml_data numbers bytes ≡ None)
-HasNoData Csv numbers bytes = HasBadRecord Comma bytes
-HasNoData Tsv numbers bytes = HasBadRecord Tab bytes
+HasNoData Csv numbers bytes = (n : ℕ) × HasBadRecord Comma bytes n
+HasNoData Tsv numbers bytes = (n : ℕ) × HasBadRecord Tab bytes n

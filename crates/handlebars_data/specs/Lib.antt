@@ -1,4 +1,5 @@
 pub mod Errors
+pub mod Counts
 pub mod Position
 pub mod JsonText
 pub mod JsonReading
@@ -10,6 +11,7 @@ pub mod LinesView
 pub mod Merge
 pub mod MergeLaws
 pub mod Rows
+pub mod RowLaws
 pub mod RowsView
 pub mod Setting
 pub mod Stopping

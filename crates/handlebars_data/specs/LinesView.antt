@@ -13,6 +13,10 @@ lines_reader s = s.reader
 abbrev pub lines_numbers : {R : Type 0} → Lines R → Numbers
 lines_numbers s = s.numbers
 
+-- the line that was taken last, without its newline
+abbrev pub lines_text : {R : Type 0} → Lines R → List ℕ
+lines_text s = s.line.items
+
 -- how many lines were taken
 abbrev pub lines_taken : {R : Type 0} → Lines R → ℕ
 lines_taken s = s.number

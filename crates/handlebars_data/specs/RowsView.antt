@@ -9,11 +9,9 @@ use Rattle.csv.specs.declared.parser.State.TheVariants as state
 use Rattle.csv.specs.declared.reader.Reader.{Reader}
 use Rattle.csv.specs.declared.reader.Trim.TheVariants as trim
 use Rattle.serde_json.specs.Data.{Members, put, string}
-use Rattle.serde_json.specs.View.{view}
-use Rattle.serde_json.specs.declared.value.Value.{Value}
 use Rattle.handlebars_data.specs.Errors.{kind_of}
 use Rattle.handlebars_data.specs.Stopping.{stops_reading}
-use Rattle.handlebars_data.specs.Rows.{row_object, table_config}
+use Rattle.handlebars_data.specs.Rows.{table_config}
 use Rattle.handlebars_data.specs.declared.error.DataError.{DataError}
 use Rattle.handlebars_data.specs.declared.error.DataErrorKind.{DataErrorKind}
 use Rattle.handlebars_data.specs.declared.error.DataErrorKind.TheVariants.{RaggedRow, FieldNotUtf8}
@@ -27,6 +25,14 @@ rows_reader s = s.reader
 -- the names of the columns
 abbrev pub rows_names : {R : Type 0} → Rows R → List (List ℕ)
 rows_names s = fields_of s.names
+
+-- the fields of the row that was read last
+abbrev pub rows_fields : {R : Type 0} → Rows R → List (List ℕ)
+rows_fields s = fields_of s.row
+
+-- The number of the row that was read last, also of one that couldn't be read. The header is row 1.
+abbrev pub rows_number : {R : Type 0} → Rows R → ℕ
+rows_number s = s.number
 
 -- whether no record is left
 abbrev pub rows_ended : {R : Type 0} → Rows R → Bool
@@ -59,11 +65,11 @@ IsBadHeader d bytes =
     (names : List (List ℕ)) × (s : State) × (left : Option (List ℕ))
     × ReadsNext (table_config d) state.StartRecord (option_map strip_bom bytes) left true names s × ¬ AllText names
 
--- what an error of the reader of records becomes
-abbrev pub IsRefusal : ErrorKind → DataErrorKind → Type 0
-IsRefusal (csv.UnequalLengths position expected found) kind = (row : ℕ) × (kind ≡ RaggedRow row expected found)
-IsRefusal (csv.Utf8 position e) kind = (row : ℕ) × (field : ℕ) × (kind ≡ FieldNotUtf8 row field)
-IsRefusal other kind = stops_reading kind ≡ true
+-- what an error of the reader of records becomes, at a row with this number
+abbrev pub IsRefusal : ℕ → ErrorKind → DataErrorKind → Type 0
+IsRefusal n (csv.UnequalLengths position expected found) kind = kind ≡ RaggedRow n expected found
+IsRefusal n (csv.Utf8 position e) kind = (field : ℕ) × (kind ≡ FieldNotUtf8 n field)
+IsRefusal n other kind = stops_reading kind ≡ true
 
 -- the members with a field under the name of its column, if both are there
 abbrev pub with_field : Option (List ℕ) → Option (List ℕ) → Members → Members
@@ -77,9 +83,8 @@ ExplainsRow rem old new names (RaggedRow row header found) =
 ExplainsRow rem old new names (FieldNotUtf8 row field) = (fields : List (List ℕ)) × TookRecord rem old new fields × ¬ AllText fields
 ExplainsRow rem old new names kind = stops_reading kind ≡ true
 
--- what the next row is, by the next record
-abbrev pub IsNextRow : {R : Type 0} → (R → Option (List ℕ)) → Reader R → Reader R → List (List ℕ) → Result (Option Value) DataError → Type 0
-IsNextRow rem old new names (Ok None) = (fields : List (List ℕ)) × ReadRecord rem old new false fields
-IsNextRow rem old new names (Ok (Some v)) =
-    (fields : List (List ℕ)) × ReadRecord rem old new true fields × AllText fields × (length fields ≡ length names) × (view v ≡ row_object names fields)
-IsNextRow rem old new names (Err e) = ExplainsRow rem old new names (kind_of e)
+-- what the next row is, by the next record: whether there is one, and its fields
+abbrev pub IsNextRow : {R : Type 0} → (R → Option (List ℕ)) → Reader R → Reader R → List (List ℕ) → List (List ℕ) → Result Bool DataError → Type 0
+IsNextRow rem old new names fields (Ok false) = ReadRecord rem old new false fields
+IsNextRow rem old new names fields (Ok true) = ReadRecord rem old new true fields × AllText fields × (length fields ≡ length names)
+IsNextRow rem old new names fields (Err e) = ExplainsRow rem old new names (kind_of e)

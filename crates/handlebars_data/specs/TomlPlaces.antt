@@ -1,5 +1,5 @@
 -- Where the bytes of a TOML text stand: in a string, in a comment or a header, or between them (https://toml.io/en/v1.1.0).
-use Rattle.std.specs.Prelude.{ℕ, ◌+◌, ◌-◌, Bool, true, false, ◌&&◌, ◌||◌, ◌==◌, nat_lt, if◌then◌else◌}
+use Rattle.std.specs.Prelude.{ℕ, ◌+◌, ◌-◌, Bool, true, false, ◌&&◌, ◌||◌, ◌==◌, nat_lt, nat_le, if◌then◌else◌}
 use Rattle.toml_parser.specs.Lexical.{line_feed, quote, apostrophe, hash, backslash, left_bracket, right_bracket, left_brace, right_brace, is_ws}
 use Rattle.handlebars_data.specs.declared.toml_place.Inside.{Inside}
 use Rattle.handlebars_data.specs.declared.toml_place.Inside.TheVariants.{Nothing, Line, Opened, OpenedTwice, OneLine, Lines}
@@ -12,6 +12,11 @@ starts_string b = b == quote || b == apostrophe
 abbrev pub starts_line : Place → ℕ → Bool
 starts_line p b = b == hash || (b == left_bracket && p.begins_line && p.depth == 0)
 
+-- White space, or a byte of a byte order mark: no other byte from 128 on stands outside of strings and comments. A line goes on
+-- beginning after it.
+abbrev pub is_skipped : ℕ → Bool
+is_skipped b = is_ws b || nat_le 128 b
+
 -- the place after a byte that stands in no string, comment or header
 abbrev pub plain_step : Place → ℕ → Place
 plain_step p b =
@@ -20,7 +25,7 @@ plain_step p b =
     else if starts_line p b then record p { begins_line = false; inside = Line }
     else if b == left_bracket || b == left_brace then record p { depth = p.depth + 1; begins_line = false; inside = Nothing }
     else if b == right_bracket || b == right_brace then record p { depth = p.depth - 1; begins_line = false; inside = Nothing }
-    else if is_ws b then record p { inside = Nothing }
+    else if is_skipped b then record p { inside = Nothing }
     else record p { begins_line = false; inside = Nothing }
 
 -- whether a byte escapes the one after it, in a string with this delimiter

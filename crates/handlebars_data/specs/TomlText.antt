@@ -1,10 +1,12 @@
 -- What a TOML text is as data (https://toml.io/en/v1.1.0).
-use Rattle.std.specs.Prelude.{List, ℕ, Option, Some, None, option_map, option_and_then}
+use Rattle.std.specs.Prelude.{List, ℕ, Option, Some, None, nat_eq, option_map, option_and_then, take}
+use Rattle.std.specs.List.{common_prefix_len}
 use Rattle.toml_datetime.specs.Text.{datetime_text}
 use Rattle.toml.specs.Data as toml
 use Rattle.toml.specs.Parse.{parse_document}
 use Rattle.serde_json.specs.Data.{Data, boolean, number, string, array, object, Items, no_items, item, Members, no_members, put}
 use Rattle.serde_json.specs.Find.{of_integer}
+use Rattle.handlebars_data.specs.Position.{position}
 use Rattle.handlebars_data.specs.TomlFloats.{quoted_floats}
 use Rattle.handlebars_data.specs.declared.json_text.Numbers.{Numbers}
 use Rattle.handlebars_data.specs.declared.json_text.Numbers.TheVariants.{Spelled, Refused}
@@ -37,3 +39,11 @@ table_data ms = option_map object (members_data ms no_members)
 abbrev pub toml_data : Numbers → List ℕ → Option Data
 toml_data Refused text = option_and_then table_data (parse_document text)
 toml_data Spelled text = option_and_then (λ table. option_and_then table_data (parse_document (quoted_floats text))) (parse_document text)
+
+-- the position of the first place in a text where another text differs
+abbrev pub first_difference : List ℕ → List ℕ → ℕ × ℕ
+first_difference text other = position (take (common_prefix_len nat_eq text other) text)
+
+-- The position of the first float: where the text differs from its form with floats in quotes.
+abbrev pub first_float : List ℕ → ℕ × ℕ
+first_float text = first_difference text (quoted_floats text)

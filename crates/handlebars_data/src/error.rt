@@ -8,12 +8,14 @@ use std::fmt;
 use std::fmt::InlineText;
 
 /// The longest message of another reader, in bytes. A longer one is cut.
-pub const MESSAGE_LEN: usize = 80;
+pub const MESSAGE_LEN: usize = 88;
 
 /// What a JSON text must have at a position (RFC 8259).
 #[derive(Clone, Copy, Drop)]
 pub enum Expected {
     Value,
+    /// A value, where the text begins with a byte order mark (section 8.1).
+    ValueWithoutMark,
     ValueOrEndArray,
     Key,
     KeyOrEndObject,
@@ -41,6 +43,8 @@ impl fmt::Display for Expected {
     fn fmt<W: fmt::Write>(&self, f: &mut fmt::Formatter<W>) -> fmt::Result {
         f.write_str(match self {
             Expected::Value => "a value",
+            Expected::ValueWithoutMark =>
+                "a value, found a byte order mark: save the text without it",
             Expected::ValueOrEndArray => "a value or `]`",
             Expected::Key => "a key in quotes",
             Expected::KeyOrEndObject => "a key in quotes or `}`",
@@ -77,8 +81,6 @@ pub enum DataErrorKind {
     RaggedRow { row: u64, header: u64, fields: u64 },
     /// A field of a row is not UTF-8. Rows and fields are counted from 1, and the header is row 1.
     FieldNotUtf8 { row: u64, field: u64 },
-    /// A header or a table has a key twice.
-    DuplicateKey,
     /// The message of the TOML reader.
     Toml(InlineText<MESSAGE_LEN>),
     /// A reader fails.
@@ -102,7 +104,6 @@ impl fmt::Display for DataErrorKind {
             DataErrorKind::FieldNotUtf8 { row, field } => {
                 write!(f, "row {row}: field {field} is not UTF-8")
             }
-            DataErrorKind::DuplicateKey => f.write_str("duplicate key"),
             DataErrorKind::Toml(message) => f.write_str(message.as_str()),
             DataErrorKind::Io(kind) => write!(f, "{kind}"),
             DataErrorKind::OutOfMemory => f.write_str("out of memory"),

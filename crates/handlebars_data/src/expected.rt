@@ -27,6 +27,8 @@ impl Misfit {
     }
 }
 
+const BYTE_ORDER_MARK: &[u8] = b"\xEF\xBB\xBF";
+
 /// Returns the first place at which a text stops being JSON, has a number that is refused, or nests too deep. Where the text is
 /// well-formed, that is its end.
 ///
@@ -34,6 +36,9 @@ impl Misfit {
 pub fn first_misfit(text: &[u8], numbers: Numbers) -> Misfit
     ensures { result.offset ≤ length text.now }
 {
+    if text.starts_with(BYTE_ORDER_MARK) {
+        return Misfit::at(0, Expected::ValueWithoutMark);
+    }
     let mut open = Open::new();
     let mut expected = Expected::Value;
     let mut at = after_blanks(text, 0);

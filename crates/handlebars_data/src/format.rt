@@ -1,11 +1,10 @@
 //! Formats of data.
 
-ghost use Rattle.std.specs.Prelude.{◌≡◌, IfErr, IfOk, codes, false, nat_eq};
+ghost use Rattle.std.specs.Prelude.{◌≡◌, IfErr, IfOk, codes, nat_eq};
 ghost use Rattle.std.specs.List.{ends_with};
 ghost use Rattle.serde_json.specs.View.{view};
-ghost use Rattle.handlebars_data.specs.Errors.{kind_of};
+ghost use Rattle.handlebars_data.specs.Errors.{IsMemory};
 ghost use Rattle.handlebars_data.specs.Format.{HasNoData, IsDataOf, format_of_name, format_of_path};
-ghost use Rattle.handlebars_data.specs.Stopping.{stops_reading};
 
 use crate::error::DataError;
 use crate::json_text::{Numbers, read_json};
@@ -81,7 +80,7 @@ pub fn read_data(
     numbers: Numbers,
 ) -> Result<Value, DataError>
     ensures ok { IfOk result (λ v. IsDataOf format numbers bytes.now (view v)) }
-    ensures refused { IfErr result (λ e. stops_reading (kind_of e) ≡ false → HasNoData format numbers bytes.now) }
+    ensures refused { IfErr result (λ e. ¬ IsMemory e → HasNoData format numbers bytes.now) }
 {
     match format {
         Format::Json => read_json(alloc, text_of(bytes)?, numbers),

@@ -2,6 +2,7 @@
 
 ghost use Rattle.handlebars_data.specs.JsonLaws.{RefusesAsSerdeJson, SpellsOutNumbers, RefusingChangesNothing, HasNoFloat};
 ghost use Rattle.handlebars_data.specs.MergeLaws.{MergesByKey};
+ghost use Rattle.handlebars_data.specs.RowLaws.{IsAsNew, ReplacesEarlierRow};
 
 /// What a JSON text is as data is what serde_json reads, with its floats as they are written.
 pub fn json_laws()
@@ -15,4 +16,10 @@ pub fn json_laws()
 /// key of neither is absent.
 pub fn merge_laws()
     ensures { MergesByKey }
+{}
+
+/// Rows of a table may be read into the same object: nothing of the earlier row stays.
+pub fn row_laws()
+    ensures replaces { ReplacesEarlierRow }
+    ensures as_new { IsAsNew }
 {}

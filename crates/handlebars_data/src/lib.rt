@@ -12,6 +12,7 @@ pub mod lines;
 mod members;
 pub mod merging;
 mod position;
+mod row_lines;
 pub mod rows;
 pub mod setting;
 mod stopping;

@@ -1,19 +1,22 @@
 //! Rows of CSV and TSV.
 
-ghost use Rattle.std.specs.Prelude.{◌≡◌, Err, IfErr, IfOk, None, Ok, OnErr, OnOk, Some, false, if◌then◌else◌, is_none, option_map, true};
+ghost use Rattle.std.specs.Prelude.{◌≡◌, Err, IfErr, IfOk, MatchResult, None, Ok, OnErr, OnOk, Some, ◌+◌, false, if◌then◌else◌, IsSomeAnd, not, option_map, true};
 ghost use Rattle.csv.specs.Reading.{ReadsNext, error_kind, strip_bom};
 ghost use Rattle.csv.specs.Records.{AllText, fields_of};
 ghost use Rattle.csv.specs.declared.parser.State.TheVariants as state;
+ghost use Rattle.serde_json.specs.Data.{put, string};
 ghost use Rattle.serde_json.specs.View.{members_view, view};
-ghost use Rattle.handlebars_data.specs.Errors.{kind_of};
-ghost use Rattle.handlebars_data.specs.Rows.{HasBadRecord, IsTable, delimiter_byte, row_object};
-ghost use Rattle.handlebars_data.specs.RowsView.{IsBadHeader, IsHeader, IsNextRow, IsReady, IsRefusal, rows_ended, rows_failure, rows_names, rows_reader, with_field};
+ghost use Rattle.handlebars_data.specs.Counts.{counted};
+ghost use Rattle.handlebars_data.specs.Errors.{IsMemory, kind_of};
+ghost use Rattle.handlebars_data.specs.Rows.{HasBadRecord, IsTable, delimiter_byte, row_members, row_of, row_over};
+ghost use Rattle.handlebars_data.specs.RowsView.{IsBadHeader, IsHeader, IsNextRow, IsReady, IsRefusal, rows_ended, rows_failure, rows_fields, rows_names, rows_number, rows_reader, with_field};
 ghost use Rattle.handlebars_data.specs.Stopping.{stops_reading};
 
 use crate::error::{DataError, DataErrorKind};
 use crate::members::put;
+use crate::row_lines::RowLines;
 use crate::stopping::{endless_reader, reader_failure, stops_reading};
-use csv::{Error, ErrorKind, Position, Reader, ReaderBuilder, StringRecord};
+use csv::{Error, ErrorKind, Reader, ReaderBuilder, StringRecord};
 use serde_json::Value;
 use std::alloc::{AllocError, Global};
 use std::collections::BTreeMap;
@@ -46,8 +49,9 @@ pub struct Rows<R> {
     reader: Reader<R>,
     names: StringRecord,
     row: StringRecord,
-    // The number of the last row, from 1. The header is row 1.
+    // The number of the row that was read last. The header is row 1.
     number: u64,
+    lines: RowLines,
     // Whether no record is left.
     ended: bool,
     // The error that stopped the reading.
@@ -62,6 +66,7 @@ impl<R: Drop> Drop for Rows<R> {
             names: _,
             row: _,
             number: _,
+            lines: _,
             ended: _,
             failure: _,
         } = self;
@@ -78,7 +83,8 @@ impl<R: Read + Drop> Rows<R> {
         ensures header { IfOk result (λ s. IsHeader R.remaining delimiter (R.remaining reader) s) }
         ensures ready { IfOk result IsReady }
         ensures failure { IfOk result (λ s. rows_failure s ≡ None) }
-        ensures refused { IfErr result (λ e. stops_reading (kind_of e) ≡ false → IsBadHeader delimiter (R.remaining reader)) }
+        ensures number { IfOk result (λ s. rows_number s ≡ (if rows_ended s then 0 else 1)) }
+        ensures refused { IfErr result (λ e. stops_reading (kind_of e) ≡ false → (row_of (kind_of e) ≡ Some 1) × IsBadHeader delimiter (R.remaining reader)) }
     {
         let mut reader = ReaderBuilder::new()
             .has_headers(false)
@@ -88,36 +94,75 @@ impl<R: Read + Drop> Rows<R> {
         match reader.read_record(&mut names) {
             Ok(found) => Ok(Rows {
                 alloc,
+                lines: RowLines::below(&names, reader.position().line()),
                 reader,
                 names,
                 row: StringRecord::new(alloc),
-                number: 1,
+                number: u64::from(found),
                 ended: !found,
                 failure: None,
             }),
-            Err(e) => Err(row_failure(&e, 1)),
+            Err(e) => Err(row_failure(&e, 1, 1)),
         }
     }
 
     /// Returns the 1-based line of the text on which the row begins that was read last, or 0 if none was.
     pub fn line(&self) -> usize {
-        match self.row.position() {
-            Some(position) => position.line() as usize,
-            None => 0,
-        }
+        self.lines.last()
     }
 
-    /// Returns the object of the next row, or `None` at the end.
+    /// Reads the next row into an object, and returns whether there was one. Each field goes under the name of its column, where a
+    /// text that is there keeps its memory. Other members of the object stay. A value that is no object becomes one.
+    ///
+    /// At the end, and after an error other than out of memory, the value is unchanged.
+    ///
+    /// Runs in time linear in the row, with a look-up of each name.
     ///
     /// # Errors
     ///
     /// Fails for a row that has another number of fields than the header, or a field that is not UTF-8. The next call goes on with
     /// the row after it. Fails also if the reader does, or if memory runs out. Each later call then fails with the same error.
-    pub fn next_row(&mut self) -> Result<Option<Value>, DataError>
+    pub fn read_row(&mut self, row: &mut Value) -> Result<bool, DataError>
+        ensures row { IfOk result (λ found. found ≡ true → view row.new ≡ row_over (rows_names self.old) (rows_fields self.new) (view row.old)) }
+        ensures unchanged { MatchResult result (λ found. found ≡ false → row.new ≡ row.old) (λ e. ¬ IsMemory e → row.new ≡ row.old) }
         ensures next { IsReady self.old → rows_failure self.old ≡ None → rows_ended self.old ≡ false
-            → IsNextRow R.remaining (rows_reader self.old) (rows_reader self.new) (rows_names self.old) result }
-        ensures ended { rows_failure self.old ≡ None → rows_ended self.old ≡ true → result ≡ Ok None }
-        ensures ends { IfOk result (λ row. rows_ended self.new ≡ is_none row) }
+            → IsNextRow R.remaining (rows_reader self.old) (rows_reader self.new) (rows_names self.old) (rows_fields self.new) result }
+        ensures taken { IfOk result (λ found. rows_number self.new ≡ (if found then counted (rows_number self.old + 1) else rows_number self.old)) }
+        ensures number { IfErr result (λ e. rows_failure self.old ≡ None → stops_reading (kind_of e) ≡ false
+            → (rows_number self.new ≡ counted (rows_number self.old + 1)) × (row_of (kind_of e) ≡ Some (rows_number self.new))) }
+        ensures ended { rows_failure self.old ≡ None → rows_ended self.old ≡ true → result ≡ Ok false }
+        ensures ends { IfOk result (λ found. rows_ended self.new ≡ not found) }
+        ensures ends_not { OnErr result (rows_ended self.new ≡ rows_ended self.old) }
+        ensures failed { (e : DataError) → rows_failure self.old ≡ Some e → result ≡ Err e }
+        ensures stops { IfErr result (λ e. rows_failure self.old ≡ None → rows_failure self.new ≡ (if stops_reading (kind_of e) then Some e else None)) }
+        ensures goes_on { OnOk result (rows_failure self.new ≡ None) }
+        ensures names { rows_names self.new ≡ rows_names self.old }
+        ensures ready { IsReady self.old → IsReady self.new }
+    {
+        if !self.skip_row()? {
+            return Ok(false);
+        }
+        match put_row(self.alloc, row, &self.names, &self.row) {
+            Ok(()) => Ok(true),
+            Err(e) => Err(self.stop_at(e.into())),
+        }
+    }
+
+    /// Reads past the next row, and returns whether there was one. Needs no memory but for the row's text.
+    ///
+    /// Runs in time linear in the row.
+    ///
+    /// # Errors
+    ///
+    /// Fails for the rows that [`Rows::read_row`] fails for, and goes on in the same way.
+    pub fn skip_row(&mut self) -> Result<bool, DataError>
+        ensures next { IsReady self.old → rows_failure self.old ≡ None → rows_ended self.old ≡ false
+            → IsNextRow R.remaining (rows_reader self.old) (rows_reader self.new) (rows_names self.old) (rows_fields self.new) result }
+        ensures taken { IfOk result (λ found. rows_number self.new ≡ (if found then counted (rows_number self.old + 1) else rows_number self.old)) }
+        ensures number { IfErr result (λ e. rows_failure self.old ≡ None → stops_reading (kind_of e) ≡ false
+            → (rows_number self.new ≡ counted (rows_number self.old + 1)) × (row_of (kind_of e) ≡ Some (rows_number self.new))) }
+        ensures ended { rows_failure self.old ≡ None → rows_ended self.old ≡ true → result ≡ Ok false }
+        ensures ends { IfOk result (λ found. rows_ended self.new ≡ not found) }
         ensures ends_not { OnErr result (rows_ended self.new ≡ rows_ended self.old) }
         ensures failed { (e : DataError) → rows_failure self.old ≡ Some e → result ≡ Err e }
         ensures stops { IfErr result (λ e. rows_failure self.old ≡ None → rows_failure self.new ≡ (if stops_reading (kind_of e) then Some e else None)) }
@@ -128,112 +173,145 @@ impl<R: Read + Drop> Rows<R> {
         if let Some(e) = self.failure {
             return Err(e);
         }
-        let result = self.read_row();
-        if let Err(e) = &result
-            && stops_reading(e)
-        {
-            self.failure = Some(*e);
-        }
-        result
-    }
-
-    fn read_row(&mut self) -> Result<Option<Value>, DataError>
-        ensures next { IsReady self.old → rows_failure self.old ≡ None → rows_ended self.old ≡ false
-            → IsNextRow R.remaining (rows_reader self.old) (rows_reader self.new) (rows_names self.old) result }
-        ensures ended { rows_ended self.old ≡ true → result ≡ Ok None }
-        ensures ends { IfOk result (λ row. rows_ended self.new ≡ is_none row) }
-        ensures ends_not { OnErr result (rows_ended self.new ≡ rows_ended self.old) }
-        ensures failure { rows_failure self.new ≡ rows_failure self.old }
-        ensures names { rows_names self.new ≡ rows_names self.old }
-        ensures ready { IfErr result (λ e. stops_reading (kind_of e) ≡ false → IsReady self.old → IsReady self.new) }
-        ensures ready_ok { OnOk result (IsReady self.old → IsReady self.new) }
-    {
         if self.ended {
-            return Ok(None);
+            return Ok(false);
         }
-        self.number = self.number.saturating_add(1);
+        let number = self.number.saturating_add(1);
+        let before = self.reader.position().line();
         match self.reader.read_record(&mut self.row) {
-            Ok(true) => Ok(Some(row_value(self.alloc, &self.names, &self.row)?)),
+            Ok(true) => {
+                self.number = number;
+                let after = self.reader.position().line();
+                self.lines.take(&self.row, before, after);
+                Ok(true)
+            }
             Ok(false) => {
                 self.ended = true;
-                Ok(None)
+                Ok(false)
             }
-            Err(e) => Err(row_failure(&e, self.number)),
+            Err(e) => {
+                self.number = number;
+                self.lines.take_rejected(before);
+                let line = self.lines.last();
+                Err(self.stop_at(row_failure(&e, number, line)))
+            }
         }
+    }
+
+    // Notes an error. If it ends the reading, each later call fails with it.
+    fn stop_at(&mut self, e: DataError) -> DataError
+        ensures result { result ≡ e }
+        ensures failure { rows_failure self.new ≡ (if stops_reading (kind_of e) then Some e else rows_failure self.old) }
+        ensures reader { rows_reader self.new ≡ rows_reader self.old }
+        ensures names { rows_names self.new ≡ rows_names self.old }
+        ensures fields { rows_fields self.new ≡ rows_fields self.old }
+        ensures ended { rows_ended self.new ≡ rows_ended self.old }
+        ensures number { rows_number self.new ≡ rows_number self.old }
+    {
+        if stops_reading(&e) {
+            self.failure = Some(e);
+        }
+        e
     }
 }
 
 /// Reads the text of a table with a header: the array of the objects of its rows. A table without a header is an empty array.
 ///
+/// Runs in time linear in the text, with a look-up of each name in each row.
+///
 /// # Errors
 ///
 /// Fails for the first row that has another number of fields than the header, or a field that is not UTF-8, and if memory runs
-/// out.
+/// out. The error names the row's number.
 pub fn read_rows(alloc: Global, text: &[u8], delimiter: Delimiter) -> Result<Value, DataError>
     ensures ok { IfOk result (λ v. IsTable delimiter text.now (view v)) }
-    ensures refused { IfErr result (λ e. stops_reading (kind_of e) ≡ false → HasBadRecord delimiter text.now) }
+    ensures refused { IfErr result (λ e. ¬ IsMemory e → IsSomeAnd (row_of (kind_of e)) (HasBadRecord delimiter text.now)) }
+{
+    match all_rows(alloc, text, delimiter) {
+        // A text in memory is a reader that doesn't fail.
+        Err(e) if stops_reading(&e) => Err(DataError::from(AllocError)),
+        answer => answer,
+    }
+}
+
+fn all_rows(alloc: Global, text: &[u8], delimiter: Delimiter) -> Result<Value, DataError>
+    ensures ok { IfOk result (λ v. IsTable delimiter text.now (view v)) }
+    ensures refused { IfErr result (λ e. stops_reading (kind_of e) ≡ false → IsSomeAnd (row_of (kind_of e)) (HasBadRecord delimiter text.now)) }
 {
     let mut rows = Rows::new(alloc, text, delimiter)?;
     let mut items = Vec::new(alloc);
     'rows: for _ in 0..u64::MAX {
-        match rows.next_row()? {
-            Some(row) => items.push(row)?,
-            None => return Ok(Value::Array(items)),
+        let mut row = Value::Null;
+        if !rows.read_row(&mut row)? {
+            return Ok(Value::Array(items));
         }
+        items.push(row)?;
     }
     Err(endless_reader())
 }
 
-// Returns the error of a row with this number.
-fn row_failure(e: &Error, number: u64) -> DataError
-    ensures { IsRefusal (error_kind e.now) (kind_of result) }
+// Returns the error of a row with this number, which begins on this line.
+fn row_failure(e: &Error, number: u64, line: usize) -> DataError
+    ensures { IsRefusal number (error_kind e.now) (kind_of result) }
 {
     match e.kind() {
         ErrorKind::Io(cause) => reader_failure(cause),
         ErrorKind::UnequalLengths {
-            pos,
+            pos: _,
             expected_len,
             len,
-        } => on_row(
-            *pos,
-            DataErrorKind::RaggedRow {
+        } => {
+            let kind = DataErrorKind::RaggedRow {
                 row: number,
                 header: *expected_len,
                 fields: *len,
-            },
-        ),
-        ErrorKind::Utf8 { pos, err } => on_row(
-            *pos,
-            DataErrorKind::FieldNotUtf8 {
+            };
+            DataError::new(kind, line, 1)
+        }
+        ErrorKind::Utf8 { pos: _, err } => {
+            let kind = DataErrorKind::FieldNotUtf8 {
                 row: number,
                 field: err.field().saturating_add(1),
-            },
-        ),
+            };
+            DataError::new(kind, line, 1)
+        }
         ErrorKind::OutOfMemory => DataError::without_position(DataErrorKind::OutOfMemory),
         // A reader of records has no other errors.
         ErrorKind::Serialize(_) | ErrorKind::Deserialize { .. } => endless_reader(),
     }
 }
 
-// Returns an error of the row that begins at a position.
-fn on_row(position: Option<Position>, kind: DataErrorKind) -> DataError
-    ensures { kind_of result ≡ kind }
+// Puts a row into an object. A value that is no object becomes one, or stays if memory runs out.
+fn put_row(
+    alloc: Global,
+    row: &mut Value,
+    names: &StringRecord,
+    fields: &StringRecord,
+) -> Result<(), AllocError>
+    ensures { OnOk result (view row.new ≡ row_over (fields_of names.now) (fields_of fields.now) (view row.old)) }
 {
-    match position {
-        Some(position) => DataError::new(kind, position.line() as usize, 1),
-        None => DataError::without_position(kind),
+    if let Value::Object(members) = row {
+        return put_fields(alloc, members, names, fields);
     }
+    let mut members = BTreeMap::new(alloc);
+    put_fields(alloc, &mut members, names, fields)?;
+    *row = Value::Object(members);
+    Ok(())
 }
 
-// Returns a row as an object.
-fn row_value(alloc: Global, names: &StringRecord, row: &StringRecord) -> Result<Value, AllocError>
-    ensures { IfOk result (λ v. view v ≡ row_object (fields_of names.now) (fields_of row.now)) }
+fn put_fields(
+    alloc: Global,
+    members: &mut BTreeMap<String, Value>,
+    names: &StringRecord,
+    fields: &StringRecord,
+) -> Result<(), AllocError>
+    ensures { OnOk result (members_view members.new.entries
+        ≡ row_members (fields_of names.now) (fields_of fields.now) (members_view members.old.entries)) }
 {
-    let mut members = BTreeMap::new(alloc);
     'fields: for i in 0..names.len() {
-        put_field(alloc, &mut members, names.get(i), row.get(i))?;
+        put_field(alloc, members, names.get(i), fields.get(i))?;
     }
-    Ok(Value::Object(members))
+    Ok(())
 }
 
 // Puts a field under the name of its column.
@@ -246,10 +324,48 @@ fn put_field(
     ensures { OnOk result (members_view members.new.entries
         ≡ with_field (option_map (λ s. s.now) name.entry) (option_map (λ s. s.now) field.entry) (members_view members.old.entries)) }
 {
-    let (Some(name), Some(field)) = (name, field) else {
-        return Ok(());
-    };
-    let key = String::from_str(alloc, name)?;
-    let text = String::from_str(alloc, field)?;
+    match (name, field) {
+        (Some(name), Some(field)) => put_text(alloc, members, name, field),
+        _ => Ok(()),
+    }
+}
+
+// Puts a text under a key.
+fn put_text(
+    alloc: Global,
+    members: &mut BTreeMap<String, Value>,
+    key: &str,
+    text: &str,
+) -> Result<(), AllocError>
+    ensures { OnOk result (members_view members.new.entries ≡ put key.now (string text.now) (members_view members.old.entries)) }
+{
+    match members.get_mut(key) {
+        Some(value) => write_text(alloc, value, text),
+        None => add_text(alloc, members, key, text),
+    }
+}
+
+fn add_text(
+    alloc: Global,
+    members: &mut BTreeMap<String, Value>,
+    key: &str,
+    text: &str,
+) -> Result<(), AllocError>
+    ensures { OnOk result (members_view members.new.entries ≡ put key.now (string text.now) (members_view members.old.entries)) }
+{
+    let key = String::from_str(alloc, key)?;
+    let text = String::from_str(alloc, text)?;
     put(members, key, Value::String(text))
+}
+
+// Makes a value a text. A text keeps its memory.
+fn write_text(alloc: Global, value: &mut Value, text: &str) -> Result<(), AllocError>
+    ensures { OnOk result (view value.new ≡ string text.now) }
+{
+    if let Value::String(written) = value {
+        written.clear();
+        return written.push_str(text);
+    }
+    *value = Value::String(String::from_str(alloc, text)?);
+    Ok(())
 }

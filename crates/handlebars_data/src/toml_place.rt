@@ -132,7 +132,8 @@ impl Place {
             b'[' if self.begins_line && self.depth == 0 => self.at_line(false, Inside::Line),
             b'[' | b'{' => self.in_brackets(self.depth + 1),
             b']' | b'}' => self.in_brackets(self.depth.saturating_sub(1)),
-            b' ' | b'\t' => self.within(Inside::Nothing),
+            // A byte from 128 on is one of a byte order mark, before which nothing stands.
+            b' ' | b'\t' | 128..=255 => self.within(Inside::Nothing),
             _ => self.at_line(false, Inside::Nothing),
         }
     }

@@ -1,13 +1,13 @@
 //! Reads TOML.
 
-ghost use Rattle.std.specs.Prelude.{◌≡◌, ◌≤◌, IfErr, IfOk, None, Some, length};
-ghost use Rattle.toml.specs.Errors.{IsWithin};
+ghost use Rattle.std.specs.Prelude.{◌≡◌, ◌≢◌, ◌≤◌, IfErr, IfOk, None, Some, length, nat_eq};
+ghost use Rattle.std.specs.List.{common_prefix_len};
 ghost use Rattle.toml.specs.Parse.{parse_document};
 ghost use Rattle.toml.specs.View as toml_view;
 ghost use Rattle.serde_json.specs.Data.{no_members};
 ghost use Rattle.serde_json.specs.View.{items_view, members_view, view};
-ghost use Rattle.handlebars_data.specs.Errors.{IsMemory};
-ghost use Rattle.handlebars_data.specs.TomlText.{items_data, members_data, table_data, toml_data, value_data};
+ghost use Rattle.handlebars_data.specs.Errors.{IsMemory, LiesIn, kind_of, position_in};
+ghost use Rattle.handlebars_data.specs.TomlText.{first_difference, first_float, items_data, members_data, table_data, toml_data, value_data};
 ghost use Rattle.handlebars_data.specs.TomlView.{Gives, IsTomlMemory};
 
 use crate::error::{DataError, DataErrorKind};
@@ -27,14 +27,16 @@ use toml::de::Error;
 /// # Errors
 ///
 /// Fails if the text is no TOML, with the position and the message of the TOML reader. Also fails at a float, if `numbers` is
-/// `Refused`. Fails without a position if memory runs out.
+/// `Refused`, with its position. Fails without a position if memory runs out.
 ///
 /// Runs in time linear in the text, apart from the look-up of keys. A text with floats is read twice.
 pub fn read_toml(alloc: Global, text: &str, numbers: Numbers) -> Result<Value, DataError>
     ensures ok { IfOk result (λ v. toml_data numbers text.now ≡ Some (view v)) }
     ensures refused { IfErr result (λ e. ¬ IsMemory e → toml_data numbers text.now ≡ None) }
+    ensures position { IfErr result (λ e. ¬ IsMemory e → LiesIn text.now e) }
+    ensures float { IfErr result (λ e. kind_of e ≡ DataErrorKind.NumberNotInteger → position_in e ≡ first_float text.now) }
 {
-    let table = document(alloc, text)?;
+    let table = document(alloc, text, text)?;
     let quoted = quoted_floats(alloc, text)?;
     match numbers {
         Numbers::Refused => object_of(alloc, table, text, &quoted),
@@ -50,32 +52,38 @@ fn spelled(alloc: Global, table: Table, text: &str, quoted: &str) -> Result<Tabl
     requires { parse_document text.now ≡ Some (toml_view.table_view table) }
     ensures ok { IfOk result (λ t. parse_document quoted.now ≡ Some (toml_view.table_view t)) }
     ensures refused { IfErr result (λ e. ¬ IsMemory e → parse_document quoted.now ≡ None) }
+    ensures position { IfErr result (λ e. ¬ IsMemory e → LiesIn text.now e) }
+    ensures kind { IfErr result (λ e. kind_of e ≢ DataErrorKind.NumberNotInteger) }
 {
     if quoted == text {
         return Ok(table);
     }
-    document(alloc, quoted)
+    document(alloc, quoted, text)
 }
 
-fn document(alloc: Global, text: &str) -> Result<Table, DataError>
-    ensures ok { IfOk result (λ table. parse_document text.now ≡ Some (toml_view.table_view table)) }
-    ensures refused { IfErr result (λ e. ¬ IsMemory e → parse_document text.now ≡ None) }
+// Reads a source, which is the text or its form with floats in quotes. An error has a position in the text.
+fn document(alloc: Global, source: &str, text: &str) -> Result<Table, DataError>
+    ensures ok { IfOk result (λ table. parse_document source.now ≡ Some (toml_view.table_view table)) }
+    ensures refused { IfErr result (λ e. ¬ IsMemory e → parse_document source.now ≡ None) }
+    ensures position { IfErr result (λ e. ¬ IsMemory e → LiesIn text.now e) }
+    ensures kind { IfErr result (λ e. kind_of e ≢ DataErrorKind.NumberNotInteger) }
 {
-    match toml::table_from_str(alloc, text) {
+    match toml::table_from_str(alloc, source) {
         Ok(table) => Ok(table),
         Err(e) => Err(syntax_error(&e, text)),
     }
 }
 
 fn syntax_error(e: &Error, text: &str) -> DataError
-    requires { IsWithin text.now e.now }
-    ensures { IsTomlMemory e.now → IsMemory result }
+    ensures memory { IsTomlMemory e.now → IsMemory result }
+    ensures position { ¬ IsMemory result → LiesIn text.now result }
+    ensures kind { kind_of result ≢ DataErrorKind.NumberNotInteger }
 {
     match e.span() {
         Some(span) => DataError::at(
             DataErrorKind::Toml(InlineText::of(e.message())),
             text.as_bytes(),
-            span.start,
+            span.start.min(text.len()),
         ),
         None => DataError::without_position(DataErrorKind::OutOfMemory),
     }
@@ -86,6 +94,8 @@ fn syntax_error(e: &Error, text: &str) -> DataError
 fn object_of(alloc: Global, table: Table, text: &str, quoted: &str) -> Result<Value, DataError>
     ensures ok { IfOk result (λ v. table_data (toml_view.table_view table) ≡ Some (view v)) }
     ensures refused { IfErr result (λ e. ¬ IsMemory e → table_data (toml_view.table_view table) ≡ None) }
+    ensures position { IfErr result (λ e. ¬ IsMemory e → LiesIn text.now e) }
+    ensures float { IfErr result (λ e. kind_of e ≡ DataErrorKind.NumberNotInteger → position_in e ≡ first_difference text.now quoted.now) }
 {
     match members_of(alloc, table) {
         Ok(members) => Ok(Value::Object(members)),
@@ -100,14 +110,16 @@ fn object_of(alloc: Global, table: Table, text: &str, quoted: &str) -> Result<Va
 
 // Returns how many bytes two texts have in common at their starts.
 fn common_len(left: &[u8], right: &[u8]) -> usize
-    ensures { result ≤ length left.now }
+    ensures common { result ≡ common_prefix_len nat_eq left.now right.now }
+    ensures within { result ≤ length left.now }
 {
-    for at in 0..left.len() {
-        if right.get(at) != left.get(at) {
+    let shorter = left.len().min(right.len());
+    'common: for at in 0..shorter {
+        if left[at] != right[at] {
             return at;
         }
     }
-    left.len()
+    shorter
 }
 
 // Why a value has no data.

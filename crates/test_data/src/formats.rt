@@ -75,17 +75,18 @@ fn each_line(alloc: Global, bytes: &[u8]) -> Result<String, AllocError> {
     Ok(all)
 }
 
-// What is read of rows one after another, also after an error.
+// What is read of rows one after another into the same object, also after an error.
 fn each_row(alloc: Global, bytes: &[u8], delimiter: Delimiter) -> Result<String, AllocError> {
     let mut all = String::new(alloc);
     let mut rows = match Rows::new(alloc, bytes, delimiter) {
         Ok(rows) => rows,
         Err(e) => return shown(alloc, Err(e)),
     };
+    let mut row = Value::Null;
     for _ in 0..u64::MAX {
-        match rows.next_row() {
-            Ok(None) => break,
-            Ok(Some(value)) => push(alloc, &mut all, Ok(value))?,
+        match rows.read_row(&mut row) {
+            Ok(false) => break,
+            Ok(true) => push(alloc, &mut all, Ok(row.clone()?))?,
             Err(e) => push(alloc, &mut all, Err(e))?,
         }
     }

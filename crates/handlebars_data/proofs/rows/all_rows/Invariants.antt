@@ -4,7 +4,7 @@ use Rattle.csv.specs.Records.{AllText}
 use Rattle.handlebars_data.specs.Rows.{table_config}
 use Rattle.handlebars_data.specs.RowsView.{IsReady, rows_failure, rows_names, rows_reader}
 use Rattle.handlebars_data.proofs.TableReads.{IsAt}
-use Rattle.handlebars_data.proofs.rows.read_rows.Given as goal
+use Rattle.handlebars_data.proofs.rows.all_rows.Given as goal
 
 abbrev pub invariant-rows : goal.invariant-rows
 invariant-rows l = record {
