@@ -2,9 +2,13 @@
 use Rattle.std.proofs.Common.{◌≡◌, ◌∙◌, ℕ, ◌+◌, Bool, false, cond, List, [], ◌∷◌, ◌++◌, Option, Some, None, refl, sym, ap, arith}
 use Rattle.std.specs.Option.{option_map_or}
 use Rattle.std.proofs.lemmas.List.Sums.{sum_by-append}
-use Rattle.hb_build.specs.Items.{Fate, Item, Counts, created, changed, unchanged, failed, count_of, is_created, is_changed, is_unchanged, is_failed}
-use Rattle.hb_build.specs.Build.{counted_with}
+use Rattle.hb_build.specs.Items.{Fate, Item, Counts, created, changed, unchanged, failed, count_of, counted, is_created, is_changed, is_unchanged, is_failed, outcome_of}
 use Rattle.hb_build.specs.declared.outcome.Summary.{Summary}
+
+-- the summary with one more item, if it is of the shard
+abbrev pub counted_with : Option Fate → Summary → Summary
+counted_with None summary = summary
+counted_with (Some fate) summary = counted (outcome_of fate) summary
 
 -- what an item adds to such a count
 one : (Fate → Bool) → Option Fate → ℕ

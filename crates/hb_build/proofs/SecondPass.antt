@@ -6,7 +6,7 @@ use Rattle.std.proofs.lemmas.Option.{get_or_from_slice_get, slice_get_within}
 use Rattle.hb_build.specs.Name.{Name, AreAcceptable}
 use Rattle.hb_build.specs.Entries.{Entries, Text, AreSame}
 use Rattle.hb_build.specs.Items.{Fate, Item, Counts, IsStored, WasFound, empty_summary, fate_of, is_failed, outcome_of}
-use Rattle.hb_build.specs.Passes.{HasItems, IsCause, IsFate, IsStoreCause, IsPreserved, IsDone, IsReported, IsSecondPass, IsStep}
+use Rattle.hb_build.specs.Passes.{HasItems, IsCause, IsFate, IsInShard, IsStoreCause, IsPreserved, IsDone, IsReported, IsSecondPass, IsStep}
 use Rattle.hb_build.specs.declared.source.Pages as pages
 use Rattle.hb_build.specs.declared.files.Store as stores
 use Rattle.hb_build.specs.declared.outcome.Report as reports
@@ -16,10 +16,11 @@ use Rattle.hb_build.specs.declared.outcome.Cause.{Cause}
 use Rattle.hb_build.specs.declared.outcome.Cause.TheVariants as causes
 use Rattle.hb_build.specs.declared.options.Settings.{Settings}
 use Rattle.hb_build.specs.declared.outcome.Summary.{Summary}
-use Rattle.hb_build.specs.Build.{HasNoFailure, counted_with}
-use Rattle.hb_build.proofs.Counting.{Counts-push, count_of-push}
+use Rattle.hb_build.specs.Build.{HasNoFailure}
+use Rattle.hb_build.proofs.Counting.{Counts-push, count_of-push, counted_with}
 use Rattle.hb_build.proofs.Each.{each_append, each_weaker}
 use Rattle.hb_build.proofs.Making.{Changes-trans}
+use Rattle.hb_build.proofs.OneItem.{Changes-none}
 use Rattle.hb_build.proofs.Written.{IsApart, IsStored-push, IsStored-same, WasFound-before, WasFound-same}
 
 module _ {P S R : Type 0} (p : pages.Ghosts P) (s : stores.Ghosts S) (r : reports.Ghosts R) (settings : Settings) (names : List Name) where
@@ -71,17 +72,16 @@ module _ {P S R : Type 0} (p : pages.Ghosts P) (s : stores.Ghosts S) (r : report
     contains m x e = (m, slice_get_within names m x e, get_or_from_slice_get names m x x e)
 
   pub IsSecondPass-push : AreAcceptable names → (first t u : P) (old mid new : S) (before between after : R) (items : List Item) (i : Item)
-      → IsSecondPass p s r settings names first t old mid before between items → p.advances t (Some true) u → p.names u (Some i.name)
-      → slice_get names (length items) ≡ Some i.name → IsDone p s r settings names (length items) u i mid new between after
+      → IsSecondPass p s r settings names first t old mid before between items → IsStep p s settings names (length items) t i u
+      → IsDone s r settings names (length items) i mid new between after
       → IsSecondPass p s r settings names first u old new before after (items ++ i ∷ [])
-  IsSecondPass-push ok first t u old mid new before between after items i pass advanced named same_name done =
+  IsSecondPass-push ok first t u old mid new before between after items i pass step done =
       let zero_add : 0 + length items ≡ length items = omega arith in
       let apart : AllByRecursion (IsApart i.name) items = each_weaker (IsNumbered (0 + length items)) (IsApart i.name) items
-      (apart_from ok (0 + length items) i.name (subst (λ n. slice_get names n ≡ Some i.name) (sym zero_add) same_name))
+      (apart_from ok (0 + length items) i.name (subst (λ n. slice_get names n ≡ Some i.name) (sym zero_add) step.same_name))
       (numbered 0 first t items pass.given) in
       record {
-        given = HasItems-push 0 first t u items i pass.given (subst (λ n. IsStep p s settings names n t i u) (sym zero_add)
-            (record { advanced = advanced; named = named; same_name = same_name; share = done.share }));
+        given = HasItems-push 0 first t u items i pass.given (subst (λ n. IsStep p s settings names n t i u) (sym zero_add) step);
         found = λ r. each_append (λ item. IfSome item.fate (WasFound (s.entries old) item.name)) items (i ∷ []) (pass.found (done.stored.was_reliable r))
             (WasFound-before i.name items apart (s.entries old) (s.entries mid) settings.dry_run (pass.stored.change (done.stored.was_reliable r)) i.fate (done.found r), tt);
         stored = Changes-trans s (IsStored settings.dry_run items) (IsStored settings.dry_run (i ∷ [])) (IsStored settings.dry_run (items ++ i ∷ []))
@@ -132,18 +132,35 @@ module _ {P S R : Type 0} (p : pages.Ghosts P) (s : stores.Ghosts S) (r : report
 
   -- one item more
   pub IsSofar-push : AreAcceptable names → (first t u : P) (old mid new : S) (before between after : R) (k : ℕ) (was now : Summary) (i : Item)
-      → IsSofar first t old mid before between k was → p.advances t (Some true) u → p.names u (Some i.name) → slice_get names k ≡ Some i.name
-      → IsDone p s r settings names k u i mid new between after → now ≡ counted_with i.fate was
-      → (settings.keep_going ≡ false → option_map_or is_failed i.fate false ≡ false) → IsSofar first u old new before after (k + 1) now
-  IsSofar-push ok first t u old mid new before between after k was now i h advanced named same_name done counted goes_on = record {
+      → IsSofar first t old mid before between k was → IsStep p s settings names k t i u → IsDone s r settings names k i mid new between after
+      → now ≡ counted_with i.fate was → (settings.keep_going ≡ false → option_map_or is_failed i.fate false ≡ false)
+      → IsSofar first u old new before after (k + 1) now
+  IsSofar-push ok first t u old mid new before between after k was now i h step done counted goes_on = record {
     items = h.items ++ i ∷ [];
-    pass = IsSecondPass-push p s r settings names ok first t u old mid new before between after h.items i h.pass advanced named
-        (subst (λ n. slice_get names n ≡ Some i.name) (sym h.number) same_name)
-        (subst (λ n. IsDone p s r settings names n u i mid new between after) (sym h.number) done);
+    pass = IsSecondPass-push p s r settings names ok first t u old mid new before between after h.items i h.pass
+        (subst (λ n. IsStep p s settings names n t i u) (sym h.number) step)
+        (subst (λ n. IsDone s r settings names n i mid new between after) (sym h.number) done);
     number = length-append h.items (i ∷ []) ∙ ap (λ n. n + 1) h.number;
     counted = Counts-push h.items i was now h.counted counted;
     no_failure = λ stops. count_of-push is_failed h.items i ∙ rw (goes_on stops, h.no_failure stops) refl;
   }
+
+  -- the step to an item of the shard
+  pub IsStep-from : (k : ℕ) (t u : P) (name other : Name) (fate : Fate) → slice_get names k ≡ Some name → slice_get names k ≡ Some other
+      → IsInShard settings.shard k → p.advances t (Some true) u → p.names u (Some other) → IsFate p s u fate
+      → IsStep p s settings names k t (record { name = name; fate = Some fate }) u
+  IsStep-from k t u name other fate at here in_shard advanced named is_fate =
+      let same : other ≡ name = cc in
+      record { same_name = at; passed = (in_shard, advanced, subst (λ n. p.names u (Some n)) same named, is_fate) }
+
+  -- one item more, which is skipped
+  pub IsSofar-skip : AreAcceptable names → (first t u : P) (old mid : S) (before between : R) (k : ℕ) (summary : Summary) (name : Name)
+      → IsSofar first t old mid before between k summary → slice_get names k ≡ Some name → (IsInShard settings.shard k → ⊥) → p.skips t (Some true) u
+      → IsSofar first u old mid before between (k + 1) summary
+  IsSofar-skip ok first t u old mid before between k summary name h at outside skipped =
+      IsSofar-push ok first t u old mid mid before between between k summary summary (record { name = name; fate = None }) h
+      (record { same_name = at; passed = (outside, skipped) })
+      (record { found = λ _. tt; stored = Changes-none s settings.dry_run name mid; reported = refl }) refl (λ _. refl)
 
   -- the second pass over a store that has what the store before had
   pub IsSecondPass-same : (first last : P) (a b c : S) (before after : R) (items : List Item) → IsPreserved s a b

@@ -5,7 +5,7 @@ use Rattle.std.proofs.lemmas.List.Sums.{sum_by-cons}
 use Rattle.std.proofs.lemmas.Bool.{eq-eqb, ne_eqb}
 use Rattle.hb_build.specs.Name.{Name}
 use Rattle.hb_build.specs.Items.{Fate, Item, Counts, created, changed, unchanged, failed, count_of, is_created, is_changed, is_unchanged, is_failed}
-use Rattle.hb_build.specs.Passes.{HasItems, IsShare, share_of}
+use Rattle.hb_build.specs.Passes.{HasItems, IsPassed, share_of}
 use Rattle.hb_build.specs.declared.source.Pages as pages
 use Rattle.hb_build.specs.declared.files.Store as stores
 use Rattle.hb_build.specs.declared.outcome.Summary.{Summary}
@@ -43,19 +43,19 @@ module _ {P S : Type 0} (p : pages.Ghosts P) (s : stores.Ghosts S) (settings : S
   in_shard : ℕ → Bool
   in_shard k = eqb (k % settings.shard.count) (settings.shard.number - 1)
 
-  all_of-cons : (k : ℕ) (u : P) (name : Name) (fate : Option Fate) (items : List Item) (n : ℕ) → IsShare p s settings names k u fate → all_of items ≡ n
+  all_of-cons : (k : ℕ) (t u : P) (name : Name) (fate : Option Fate) (items : List Item) (n : ℕ) → IsPassed p s settings names k t name fate u → all_of items ≡ n
       → all_of (record { name = name; fate = fate } ∷ items) ≡ cond (in_shard k) 1 0 + n
   unfolding all_of in_shard one
-  all_of-cons k u name None items n share e = rw (ne_eqb (k % settings.shard.count) (settings.shard.number - 1) share) (split name None items ∙ sums 0 0 0 0 items 0 n refl e)
-  all_of-cons k u name (Some (created x)) items n share e = rw (eq-eqb (k % settings.shard.count) (settings.shard.number - 1) share.0) (split name (Some (created x)) items ∙ sums 1 0 0 0 items 1 n refl e)
-  all_of-cons k u name (Some (changed x)) items n share e = rw (eq-eqb (k % settings.shard.count) (settings.shard.number - 1) share.0) (split name (Some (changed x)) items ∙ sums 0 1 0 0 items 1 n refl e)
-  all_of-cons k u name (Some (unchanged x)) items n share e = rw (eq-eqb (k % settings.shard.count) (settings.shard.number - 1) share.0) (split name (Some (unchanged x)) items ∙ sums 0 0 1 0 items 1 n refl e)
-  all_of-cons k u name (Some (failed x)) items n share e = rw (eq-eqb (k % settings.shard.count) (settings.shard.number - 1) share.0) (split name (Some (failed x)) items ∙ sums 0 0 0 1 items 1 n refl e)
+  all_of-cons k t u name None items n passed e = rw (ne_eqb (k % settings.shard.count) (settings.shard.number - 1) passed.0) (split name None items ∙ sums 0 0 0 0 items 0 n refl e)
+  all_of-cons k t u name (Some (created x)) items n passed e = rw (eq-eqb (k % settings.shard.count) (settings.shard.number - 1) passed.0) (split name (Some (created x)) items ∙ sums 1 0 0 0 items 1 n refl e)
+  all_of-cons k t u name (Some (changed x)) items n passed e = rw (eq-eqb (k % settings.shard.count) (settings.shard.number - 1) passed.0) (split name (Some (changed x)) items ∙ sums 0 1 0 0 items 1 n refl e)
+  all_of-cons k t u name (Some (unchanged x)) items n passed e = rw (eq-eqb (k % settings.shard.count) (settings.shard.number - 1) passed.0) (split name (Some (unchanged x)) items ∙ sums 0 0 1 0 items 1 n refl e)
+  all_of-cons k t u name (Some (failed x)) items n passed e = rw (eq-eqb (k % settings.shard.count) (settings.shard.number - 1) passed.0) (split name (Some (failed x)) items ∙ sums 0 0 0 1 items 1 n refl e)
 
   all_of-share : (k : ℕ) (t v : P) (items : List Item) → HasItems p s settings names k t items v → all_of items ≡ share_of settings.shard k (length items)
   unfolding all_of in_shard
   all_of-share k t v [] h = refl
-  all_of-share k t v (i ∷ items) h = all_of-cons k h.0 i.name i.fate items (share_of settings.shard (k + 1) (length items)) h.1.share
+  all_of-share k t v (i ∷ items) h = all_of-cons k t h.0 i.name i.fate items (share_of settings.shard (k + 1) (length items)) h.1.passed
       (all_of-share (k + 1) h.0 v items h.2)
 
   -- the numbers of a summary add up to the share

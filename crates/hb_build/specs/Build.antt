@@ -1,11 +1,10 @@
 -- What a build does: two passes, or a part of them.
-use Rattle.std.specs.Prelude.{◌≡◌, ◌≢◌, ◌⊎◌, ℕ, ◌+◌, ◌<◌, ◌≤◌, Bool, true, false, List, [], ◌∷◌, ◌++◌, Option, Some, None, Result, IfErr, OnOk, length, slice_get, string_bytes}
-use Rattle.std.specs.Option.{option_map_or}
+use Rattle.std.specs.Prelude.{◌≡◌, ◌≢◌, ◌⊎◌, ℕ, ◌+◌, ◌<◌, Bool, true, false, List, [], ◌∷◌, ◌++◌, Some, None, Result, IfErr, OnOk, length, slice_get, string_bytes}
 use Rattle.hb_build.specs.Name.{Name, AreAcceptable}
 use Rattle.hb_build.specs.NameErrors.{IsNameError}
 use Rattle.hb_build.specs.Given.{IfFault}
 use Rattle.hb_build.specs.Items.{Item, Counts, Fate, count_of, counted, failed, is_failed, outcome_of}
-use Rattle.hb_build.specs.Passes.{AreClear, IsDone, IsFirstPass, IsPreserved, IsPagesError, IsSecondPass, IsWayError, share_of}
+use Rattle.hb_build.specs.Passes.{AreClear, IsDone, IsFate, IsFirstPass, IsInShard, IsPreserved, IsPagesError, IsSecondPass, IsWayError, share_of}
 use Rattle.hb_build.specs.declared.source.Pages as pages
 use Rattle.hb_build.specs.declared.files.Store as stores
 use Rattle.hb_build.specs.declared.outcome.Report as reports
@@ -28,6 +27,13 @@ IsFailure keep_going item name outcome (errors.Failed k text cause) =
     (keep_going ≡ false) × (k ≡ item) × (string_bytes text ≡ name) × (outcome ≡ outcomes.Failed cause)
 IsFailure keep_going item name outcome _ = ⊥
 
+-- the same of an item of which this has become
+abbrev pub IsItemFailure : Bool → ℕ → Item → BuildError → Type 0
+IsItemFailure keep_going k item errors.OutOfMemory = (keep_going ≡ false) × (cause : Cause) × (item.fate ≡ Some (failed cause))
+IsItemFailure keep_going k item (errors.Failed number text cause) =
+    (keep_going ≡ false) × (number ≡ k) × (string_bytes text ≡ item.name) × (item.fate ≡ Some (failed cause))
+IsItemFailure keep_going k item _ = ⊥
+
 module _ {P : Type 0} (p : pages.Ghosts P) where
   -- The item of this number and name isn't reached from the old state: the pages fail, or end, or have another name.
   abbrev pub IsUnreached : P → ℕ → Name → P → BuildError → Type 0
@@ -37,64 +43,59 @@ module _ {P : Type 0} (p : pages.Ghosts P) where
       × (p.advances old (Some false) now ⊎ (p.advances old (Some true) now × (other : Name) × p.names now (Some other) × (other ≢ name)))
   IsUnreached old item name now _ = ⊥
 
+  -- the item of this number can't be skipped: the pages fail, or end
+  abbrev pub IsUnskipped : P → ℕ → P → BuildError → Type 0
+  IsUnskipped old item now (errors.Items k cause) = (k ≡ item) × IfFault cause (p.skips old None now)
+  IsUnskipped old item now (errors.Renamed k) = (k ≡ item) × p.skips old (Some false) now
+  IsUnskipped old item now _ = ⊥
+
   -- so many items are not all that there are: the pages fail, or have one more
   abbrev pub IsNoEnd : P → ℕ → P → BuildError → Type 0
-  IsNoEnd old items now (errors.Items k cause) = (k ≡ items) × IfFault cause (p.advances old None now)
-  IsNoEnd old items now (errors.Renamed k) = (k ≡ items) × p.advances old (Some true) now
+  IsNoEnd old items now (errors.Items k cause) = (k ≡ items) × IfFault cause (p.skips old None now)
+  IsNoEnd old items now (errors.Renamed k) = (k ≡ items) × p.skips old (Some true) now
   IsNoEnd old items now _ = ⊥
-
--- the summary with one more item, if it is of the shard
-abbrev pub counted_with : Option Fate → Summary → Summary
-counted_with None summary = summary
-counted_with (Some fate) summary = counted (outcome_of fate) summary
-
--- the same of an item of which this has become
-abbrev pub IsItemFailure : Bool → ℕ → Item → BuildError → Type 0
-IsItemFailure keep_going k item errors.OutOfMemory = (keep_going ≡ false) × (cause : Cause) × (item.fate ≡ Some (failed cause))
-IsItemFailure keep_going k item (errors.Failed number text cause) =
-    (keep_going ≡ false) × (number ≡ k) × (string_bytes text ≡ item.name) × (item.fate ≡ Some (failed cause))
-IsItemFailure keep_going k item _ = ⊥
 
 module _ {P S R : Type 0} (p : pages.Ghosts P) (s : stores.Ghosts S) (r : reports.Ghosts R) (settings : Settings) (names : List Name) where
   -- The item of this number is built, reported and counted. There is an error just if it has failed and the build is not to keep
   -- going.
   pub record IsItemBuilt {X : Type 0} (k : ℕ) (u : P) (old new : S) (before after : R) (counts now : Summary) (result : Result X BuildError) : Type 0 where
-    pub item : Item
-    pub same_name : slice_get names k ≡ Some item.name
-    pub done : IsDone p s r settings names k u item old new before after
-    pub counted : now ≡ counted_with item.fate counts
-    pub goes_on : OnOk result (settings.keep_going ≡ false → option_map_or is_failed item.fate false ≡ false)
-    pub stops : IfErr result (IsItemFailure settings.keep_going k item)
+    pub name : Name
+    pub fate : Fate
+    pub same_name : slice_get names k ≡ Some name
+    pub is_fate : IsFate p s u fate
+    pub done : IsDone s r settings names k (record { name = name; fate = Some fate }) old new before after
+    pub counts_it : now ≡ counted (outcome_of fate) counts
+    pub goes_on : OnOk result (settings.keep_going ≡ false → is_failed fate ≡ false)
+    pub stops : IfErr result (IsItemFailure settings.keep_going k (record { name = name; fate = Some fate }))
 
-  -- The second pass is over: each item has been built, and counted.
+  -- The second pass is over: each item of the shard has been built, and counted.
   pub record IsWhole (first now : P) (old new : S) (before after : R) (summary : Summary) : Type 0 where
     pub items : List Item
     pub last : P
     pub pass : IsSecondPass p s r settings names first last old new before after items
-    pub ended : p.advances last (Some false) now
+    pub ended : p.skips last (Some false) now
     pub each : length items ≡ length names
     pub counted : Counts items summary
     pub total : summary.created + summary.changed + summary.unchanged + summary.failed ≡ share_of settings.shard 0 (length names)
     pub no_failure : HasNoFailure settings items
 
-  -- Why the second pass stops behind these items: the item of this number can't be reached, or has no name, or isn't the one
-  -- that it was in the first pass. Or the last of the items has failed, and the build is not to keep going.
-  abbrev pub IsStop : P → P → List Item → BuildError → Type 0
-  IsStop last now items errors.OutOfMemory = (settings.keep_going ≡ false) × (done : List Item) × (count_of is_failed done ≡ 0)
-      × (name : Name) × (cause : Cause) × (items ≡ done ++ record { name = name; fate = Some (failed cause) } ∷ [])
-  IsStop last now items (errors.Items item cause) = HasNoFailure settings items × (length items ≡ item) × IfFault cause (p.advances last None now)
-  IsStop last now items (errors.Name item cause) = HasNoFailure settings items × (length items ≡ item) × p.advances last (Some true) now
-      × IfFault cause (p.names now None)
-  IsStop last now items (errors.Renamed item) = HasNoFailure settings items × (length items ≡ item)
-      × (((item < length names) × p.advances last (Some false) now)
-      ⊎ (p.advances last (Some true) now
-      × ((length names ≤ item) ⊎ ((name : Name) × p.names now (Some name) × (slice_get names item ≢ Some name)))))
-  IsStop last now items (errors.Failed item name cause) = (settings.keep_going ≡ false)
-      × (done : List Item) × (count_of is_failed done ≡ 0) × (length done ≡ item)
-      × (items ≡ done ++ record { name = string_bytes name; fate = Some (failed cause) } ∷ [])
-  IsStop last now items _ = ⊥
+  -- Why the second pass goes no further at the item of this number: the item is of the shard and isn't reached, or it is another
+  -- one and can't be skipped, or the first pass ended here and this one doesn't.
+  abbrev pub IsStuck : P → ℕ → P → BuildError → Type 0
+  IsStuck last k now e = ((name : Name) × (slice_get names k ≡ Some name) × IsInShard settings.shard k × IsUnreached p last k name now e)
+      ⊎ ((k < length names) × (IsInShard settings.shard k → ⊥) × IsUnskipped p last k now e)
+      ⊎ ((k ≡ length names) × IsNoEnd p last k now e)
 
-  -- The second pass stops: these items have been built.
+  -- the last of these items has failed, and none before it, and the build is not to keep going
+  abbrev pub HasFailed : List Item → BuildError → Type 0
+  HasFailed items e = (done : List Item) × (item : Item) × (items ≡ done ++ item ∷ []) × HasNoFailure settings done
+      × IsItemFailure settings.keep_going (length done) item e
+
+  -- Why the second pass stops after these items: it goes no further at the next one, or the last of these has failed.
+  abbrev pub IsStop : P → P → List Item → BuildError → Type 0
+  IsStop last now items e = (HasNoFailure settings items × IsStuck last (length items) now e) ⊎ HasFailed items e
+
+  -- The second pass stops: of these items, those of the shard have been built.
   pub record IsPart (first now : P) (old new : S) (before after : R) (e : BuildError) : Type 0 where
     pub items : List Item
     pub last : P

@@ -120,17 +120,16 @@ module _ {P S : Type 0} (p : pages.Ghosts P) (s : stores.Ghosts S) where
 
   -- From here on: the settings, and the names that the first pass gave.
   module _ (settings : Settings) (names : List Name) where
-    -- Just the items of the shard are built, with the texts that the pages have.
-    abbrev pub IsShare : ℕ → P → Option Fate → Type 0
-    IsShare k u None = IsInShard settings.shard k → ⊥
-    IsShare k u (Some fate) = IsInShard settings.shard k × IsFate u fate
+    -- The pages advance to an item of the shard. It has this name, and is built with the text that the pages have. Any other item
+    -- is skipped.
+    abbrev pub IsPassed : ℕ → P → Name → Option Fate → P → Type 0
+    IsPassed k t name None u = (IsInShard settings.shard k → ⊥) × p.skips t (Some true) u
+    IsPassed k t name (Some fate) u = IsInShard settings.shard k × p.advances t (Some true) u × p.names u (Some name) × IsFate u fate
 
-    -- The pages advance to the item of this number. It has the name that it had in the first pass.
+    -- The pages go past the item of this number. Its name is the one that it had in the first pass.
     pub record IsStep (k : ℕ) (t : P) (item : Item) (u : P) : Type 0 where
-      pub advanced : p.advances t (Some true) u
-      pub named : p.names u (Some item.name)
       pub same_name : slice_get names k ≡ Some item.name
-      pub share : IsShare k u item.fate
+      pub passed : IsPassed k t item.name item.fate u
 
     -- from this state on, the pages have these items, the first of which has this number, and end up in that state
     abbrev pub HasItems : ℕ → P → List Item → P → Type 0
@@ -144,16 +143,15 @@ IsReported {R} r names k before (item ∷ items) after = MatchOption item.fate
     (IsReported r names (k + 1) before items after)
     (λ fate. (next : R) × r.reports before k (length names) item.name (outcome_of fate) next × IsReported r names (k + 1) next items after)
 
-module _ {P S R : Type 0} (p : pages.Ghosts P) (s : stores.Ghosts S) (r : reports.Ghosts R) (settings : Settings) (names : List Name) where
-  -- the item of this number, to which the pages have advanced, is built and reported
-  pub record IsDone (k : ℕ) (u : P) (item : Item) (old new : S) (before after : R) : Type 0 where
-    pub share : IsShare p s settings names k u item.fate
-    pub found : s.reliable new → IfSome item.fate (WasFound (s.entries old) item.name)
-    pub stored : Changes s (IsStored settings.dry_run (item ∷ [])) old new
-    pub reported : IsReported r names k before (item ∷ []) after
+-- the item of this number is built and reported, if it is of the shard
+pub record IsDone {S R : Type 0} (s : stores.Ghosts S) (r : reports.Ghosts R) (settings : Settings) (names : List Name)
+    (k : ℕ) (item : Item) (old new : S) (before after : R) : Type 0 where
+  pub found : s.reliable new → IfSome item.fate (WasFound (s.entries old) item.name)
+  pub stored : Changes s (IsStored settings.dry_run (item ∷ [])) old new
+  pub reported : IsReported r names k before (item ∷ []) after
 
-  -- The second pass so far: the pages have these items, from the first one on, and they are built and reported. The last one is
-  -- the current one.
+module _ {P S R : Type 0} (p : pages.Ghosts P) (s : stores.Ghosts S) (r : reports.Ghosts R) (settings : Settings) (names : List Name) where
+  -- The second pass so far: the pages have these items, from the first one on, and those of the shard are built and reported.
   pub record IsSecondPass (first last : P) (old new : S) (before after : R) (items : List Item) : Type 0 where
     pub given : HasItems p s settings names 0 first items last
     pub found : s.reliable new → AllByRecursion (λ item. IfSome item.fate (WasFound (s.entries old) item.name)) items

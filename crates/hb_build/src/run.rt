@@ -21,21 +21,24 @@ use std::alloc::Global;
 ///
 /// The second pass renders the text of each item of the shard and writes it if the file has another text or none. Folders are made
 /// as they are needed. Each item is reported once it is built. In a dry run nothing is written, and the report says what would be.
+/// The other items are skipped.
 ///
-/// The pages may have changed between the passes. So each name is compared with that of the first pass, and the build stops at one
-/// that differs. The texts are those that the second pass renders.
+/// The pages may have changed between the passes. So the name of each item of the shard is compared with that of the first pass,
+/// and the build stops at one that differs. It also stops if there are fewer items than in the first pass, or more. The texts are
+/// those that the second pass renders.
 ///
 /// If an item fails, its file stays as it was, and the build stops, or goes on with the next item if it is to keep going.
 ///
 /// # Errors
 ///
 /// Before anything is written: the pages fail, the names are at fault, or something is in the way. After that: the pages fail, an
-/// item has another name than before, or an item fails and the build is not to keep going. The files of the items before are
-/// written whole then, and every other file is as it was.
+/// item of the shard has another name than before, an item is missing or new, or an item of the shard fails and the build is not
+/// to keep going. The files of the items before are written whole then, and every other file is as it was.
 ///
 /// # Complexity
 ///
-/// Needs memory for the names of all items, and for one text. Apart from the rendering and the files, runs in time n log n.
+/// Needs memory for the names of all items, and for one text. Apart from the rendering and the files, runs in time n log n. Each
+/// name is rendered once, and those of the shard once more.
 pub fn build<P: Pages, S: Store, R: Report>(
     alloc: Global,
     pages: &mut P,

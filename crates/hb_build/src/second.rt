@@ -1,7 +1,7 @@
-//! The second pass: the texts of the items.
+//! The second pass: the texts of the items of the shard.
 
 ghost use Rattle.std.specs.Prelude.{◌≡◌, ◌≢◌, ◌⊎◌, ◌<◌, false, true, IfErr, IfOk, MatchResult, None, OnErr, OnOk, Some, [], ◌∷◌, length, slice_get, string_bytes};
-ghost use Rattle.hb_build.specs.Build.{IsFailure, IsItemBuilt, IsNoEnd, IsPart, IsUnreached, IsWhole};
+ghost use Rattle.hb_build.specs.Build.{IsFailure, IsItemBuilt, IsNoEnd, IsPart, IsUnreached, IsUnskipped, IsWhole};
 ghost use Rattle.hb_build.specs.Given.{IfFault};
 ghost use Rattle.hb_build.specs.Entries.{Text};
 ghost use Rattle.hb_build.specs.Items.{HasRoom, fate_of, is_failed};
@@ -18,7 +18,7 @@ use crate::place::place;
 use crate::source::Pages;
 use std::alloc::Global;
 
-/// Builds each item of the shard, and reports it.
+/// Builds each item of the shard, and reports it. Skips the others.
 pub fn build_items<P: Pages, S: Store, R: Report>(
     alloc: Global,
     pages: &mut P,
@@ -33,6 +33,10 @@ pub fn build_items<P: Pages, S: Store, R: Report>(
 {
     let mut summary = Summary::new();
     for (item, name) in names.iter().enumerate() {
+        if !settings.shard.takes(item as u64) {
+            skip_item(pages, item as u64)?;
+            continue;
+        }
         reach(pages, item as u64, name.as_str())?;
         build_item(
             alloc,
@@ -64,18 +68,40 @@ fn reach<P: Pages>(pages: &mut P, item: u64, name: &str) -> Result<(), BuildErro
     Ok(())
 }
 
+// Goes past the item of this number.
+fn skip_item<P: Pages>(pages: &mut P, item: u64) -> Result<(), BuildError>
+    ensures ok { OnOk result (P.skips pages.old (Some true) pages.new) }
+    ensures err { IfErr result (IsUnskipped P.Pages pages.old item pages.new) }
+{
+    if !skip(pages, item)? {
+        return Err(BuildError::Renamed { item });
+    }
+    Ok(())
+}
+
 // Checks that there are as many items as there were.
 fn check_end<P: Pages>(pages: &mut P, items: u64) -> Result<(), BuildError>
-    ensures ok { OnOk result (P.advances pages.old (Some false) pages.new) }
+    ensures ok { OnOk result (P.skips pages.old (Some false) pages.new) }
     ensures err { IfErr result (IsNoEnd P.Pages pages.old items pages.new) }
 {
-    if advance(pages, items)? {
+    if skip(pages, items)? {
         return Err(BuildError::Renamed { item: items });
     }
     Ok(())
 }
 
-// Builds the current item, which has this number, if it is of the shard.
+// Goes past the item of this number, if there is one. Returns whether there was one.
+fn skip<P: Pages>(pages: &mut P, item: u64) -> Result<bool, BuildError>
+    ensures ok { IfOk result (λ there. P.skips pages.old (Some there) pages.new) }
+    ensures err { IfErr result (λ e. (cause : Failure) × (e ≡ BuildError.Items item cause) × IfFault cause (P.skips pages.old None pages.new)) }
+{
+    match pages.skip() {
+        Ok(there) => Ok(there),
+        Err(cause) => Err(BuildError::Items { item, cause }),
+    }
+}
+
+// Builds the current item, which has this number.
 fn build_item<P: Pages, S: Store, R: Report>(
     alloc: Global,
     pages: &P,
@@ -91,9 +117,6 @@ fn build_item<P: Pages, S: Store, R: Report>(
     requires room { HasRoom summary.old }
     ensures { IsItemBuilt P.Pages S.Store R.Report settings.now (names_of names.now) item pages.now store.old store.new report.old report.new summary.old summary.new result }
 {
-    if !settings.shard.takes(item as u64) {
-        return Ok(());
-    }
     let name = names[item].as_str();
     let outcome = try_item(pages, store, name, settings.dry_run);
     report.item(item as u64, names.len() as u64, name, &outcome);

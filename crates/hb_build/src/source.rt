@@ -17,14 +17,18 @@ pub enum Failure {
 
 /// The items, one after another. Each has the name of its file and the text of its file.
 ///
-/// `build` rewinds before each of its passes, also before the first one. Then an advance leads to the first item, and each further
-/// one to the next. `name` and `text` are those of the current item. A pass asks for the text of an item at most once.
+/// `build` rewinds before each of its passes, also before the first one. Then each call of `advance` and of `skip` is for one item,
+/// in order. `name` and `text` are those of the item that the last advance led to, and aren't asked for after a skip. A pass asks
+/// for the text of an item at most once.
 pub trait Pages {
     // From this state a rewind may succeed, or not, and lead to that state.
     ghost rewinds: { Self → Bool → Self → Type 0 };
 
     // From this state an advance may give this answer, or none, and lead to that state.
     ghost advances: { Self → Option Bool → Self → Type 0 };
+
+    // From this state a skip may give this answer, or none, and lead to that state.
+    ghost skips: { Self → Option Bool → Self → Type 0 };
 
     // In this state the current item may have this name, or none.
     ghost names: { Self → Option (List ℕ) → Type 0 };
@@ -39,6 +43,10 @@ pub trait Pages {
     /// Goes to the next item. Returns whether there is one.
     fn advance(&mut self) -> Result<bool, Failure>
         ensures { Advances advances self.old result self.new };
+
+    /// Goes past the next item, of which neither name nor text is asked then. Returns whether there was one.
+    fn skip(&mut self) -> Result<bool, Failure>
+        ensures { Advances skips self.old result self.new };
 
     /// Returns the name of the current item's file: its path within the output folder, with `/` between its parts.
     fn name(&self) -> Result<String, Failure>

@@ -12,20 +12,37 @@ use std::test::Fail;
 
 type Row = (&'static str, &'static str);
 
+// What is answered while there is no item: a name that no file may have, and no text.
+const NO_ROW: Row = ("", "!");
+
 // Items with names and texts. `!` is the text of an item that has none.
 #[derive(Drop)]
 struct Rows {
     rows: &'static [Row],
     next: usize,
+    // The item that the last call advanced to.
+    current: Row,
+    // How many items were advanced to.
+    advances: u64,
     alloc: Global,
 }
 
 impl Rows {
-    fn current(&self) -> Row {
-        match self.rows.get(self.next.wrapping_sub(1)) {
-            Some(row) => *row,
-            None => ("", ""),
+    fn new(alloc: Global, rows: &'static [Row]) -> Rows {
+        Rows {
+            rows,
+            next: 0,
+            current: NO_ROW,
+            advances: 0,
+            alloc,
         }
+    }
+
+    // Goes to the next item, if there is one.
+    fn next_row(&mut self) -> Option<Row> {
+        let row = *self.rows.get(self.next)?;
+        self.next += 1;
+        Some(row)
     }
 }
 
@@ -34,30 +51,38 @@ impl Pages for Rows {
 
     ghost advances = { λ _ _ _. Unit {0} };
 
+    ghost skips = { λ _ _ _. Unit {0} };
+
     ghost names = { λ _ _. Unit {0} };
 
     ghost texts = { λ _ _. Unit {0} };
 
     fn rewind(&mut self) -> Result<(), Failure> {
         self.next = 0;
+        self.current = NO_ROW;
         Ok(())
     }
 
     fn advance(&mut self) -> Result<bool, Failure> {
-        if self.next < self.rows.len() {
-            self.next += 1;
-            Ok(true)
-        } else {
-            Ok(false)
-        }
+        let Some(row) = self.next_row() else {
+            return Ok(false);
+        };
+        self.current = row;
+        self.advances = self.advances.saturating_add(1);
+        Ok(true)
+    }
+
+    fn skip(&mut self) -> Result<bool, Failure> {
+        self.current = NO_ROW;
+        Ok(self.next_row().is_some())
     }
 
     fn name(&self) -> Result<String, Failure> {
-        Ok(String::from_str(self.alloc, self.current().0)?)
+        Ok(String::from_str(self.alloc, self.current.0)?)
     }
 
     fn text(&self) -> Result<String, Failure> {
-        let text = self.current().1;
+        let text = self.current.1;
         if text == "!" {
             return Err(Failure::Fault(String::from_str(self.alloc, "no text")?));
         }
@@ -184,18 +209,14 @@ fn settings(dry_run: bool, keep_going: bool, shard: Shard) -> Settings {
     }
 }
 
-// What a build reports and returns.
+// What a build reports and returns, and how often it has advanced to an item.
 fn report_of(
     alloc: Global,
     rows: &'static [Row],
     store: &mut Memory,
     settings: &Settings,
 ) -> Result<String, AllocError> {
-    let mut pages = Rows {
-        rows,
-        next: 0,
-        alloc,
-    };
+    let mut pages = Rows::new(alloc, rows);
     let mut lines = Lines {
         text: String::new(alloc),
     };
@@ -209,7 +230,11 @@ fn report_of(
                 unchanged,
                 failed,
             } = summary;
-            write!(text, "{created}+{changed}+{unchanged}+{failed}")?;
+            let advances = pages.advances;
+            write!(
+                text,
+                "{created}+{changed}+{unchanged}+{failed} by {advances} advances"
+            )?;
         }
         Err(error) => write!(text, "{error}")?,
     }
@@ -239,28 +264,28 @@ fn builds(rt: HostRuntime) -> Result<(), Fail> {
             true,
             false,
             all,
-            "0/2 a.txt created, 1/2 b/c/d.txt created, 2+0+0+0",
+            "0/2 a.txt created, 1/2 b/c/d.txt created, 2+0+0+0 by 4 advances",
         ),
         (
             TWO,
             false,
             false,
             all,
-            "0/2 a.txt created, 1/2 b/c/d.txt created, 2+0+0+0",
+            "0/2 a.txt created, 1/2 b/c/d.txt created, 2+0+0+0 by 4 advances",
         ),
         (
             NEW,
             true,
             false,
             all,
-            "0/2 a.txt changed, 1/2 b/c/d.txt unchanged, 0+1+1+0",
+            "0/2 a.txt changed, 1/2 b/c/d.txt unchanged, 0+1+1+0 by 4 advances",
         ),
         (
             NEW,
             false,
             false,
             all,
-            "0/2 a.txt changed, 1/2 b/c/d.txt unchanged, 0+1+1+0",
+            "0/2 a.txt changed, 1/2 b/c/d.txt unchanged, 0+1+1+0 by 4 advances",
         ),
         (
             BAD,
@@ -274,14 +299,14 @@ fn builds(rt: HostRuntime) -> Result<(), Fail> {
             false,
             true,
             even,
-            "1/4 x.txt no text, 3/4 b/e.txt created, 1+0+0+1",
+            "1/4 x.txt no text, 3/4 b/e.txt created, 1+0+0+1 by 6 advances",
         ),
         (
             BAD,
             false,
             true,
             all,
-            "0/4 a.txt unchanged, 1/4 x.txt no text, 2/4 full.txt not written, 3/4 b/e.txt unchanged, 0+0+2+2",
+            "0/4 a.txt unchanged, 1/4 x.txt no text, 2/4 full.txt not written, 3/4 b/e.txt unchanged, 0+0+2+2 by 8 advances",
         ),
     ] {
         let settings = settings(dry_run, keep_going, shard);
