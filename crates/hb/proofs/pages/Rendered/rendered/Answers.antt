@@ -1,0 +1,4 @@
+use Rattle.hb.proofs.pages.Rendered.rendered.Goals as goal
+
+pub returns-clause-err : goal.returns-clause-err
+returns-clause-err g c = rw (c.in-Some.ensures, c.in_ok-rc.ensures.state) at c.text_of.ensures.err

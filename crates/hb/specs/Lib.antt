@@ -1,0 +1,5 @@
+pub mod Failures
+pub mod Frames
+pub mod Items
+pub mod Pages
+pub mod Advances

@@ -1,0 +1,105 @@
+//! A run of the program.
+
+use crate::build::build;
+use crate::command::program;
+use crate::failure::{Failure, Kind};
+use crate::order::Order;
+use crate::render::render;
+use crate::system::System;
+use crate::task::Task;
+use clap::error::ErrorKind;
+use clap::{ArgMatches, Error};
+use std::alloc::Global;
+use std::io::Write;
+
+/// Does what the words ask for, and returns the exit status.
+pub fn run<R: System, O: Write, E: Write>(
+    rt: &R,
+    words: Result<Vec<String>, Failure>,
+    out: &mut O,
+    err: &mut E,
+) -> u8 {
+    match words {
+        Ok(words) => match answer(rt, words.as_slice(), out, err) {
+            Ok(status) => status,
+            Err(failure) => report(&failure, err),
+        },
+        Err(failure) => report(&failure, err),
+    }
+}
+
+// Reports a failure and returns its status. If it can't be printed, the status still reports it.
+fn report<E: Write>(failure: &Failure, err: &mut E) -> u8 {
+    let _ = writeln!(err, "{failure}");
+    failure.status()
+}
+
+fn answer<R: System, O: Write, E: Write>(
+    rt: &R,
+    words: &[String],
+    out: &mut O,
+    err: &mut E,
+) -> Result<u8, Failure> {
+    let command = program(rt.alloc())?;
+    match command.try_get_matches_from(words) {
+        Ok(matches) => chosen(rt, &matches, out, err),
+        Err(refusal) => {
+            explained(rt.alloc(), &refusal, out)?;
+            Ok(0)
+        }
+    }
+}
+
+// Does what a subcommand is asked for.
+fn chosen<R: System, O: Write, E: Write>(
+    rt: &R,
+    matches: &ArgMatches<'_>,
+    out: &mut O,
+    err: &mut E,
+) -> Result<u8, Failure> {
+    let Some((name, matches)) = matches.subcommand() else {
+        return Err(Failure::of_text(rt.alloc(), Kind::Arguments, "no subcommand"));
+    };
+    let task = Task::of(matches, &[]);
+    if task.standard_inputs() > 1 {
+        return Err(Failure::of_text(
+            rt.alloc(),
+            Kind::Arguments,
+            "standard input is named more than once",
+        ));
+    }
+    if name == "build" {
+        let order = Order::of(rt.alloc(), matches)?;
+        let failed = build(rt, &task, &order, out, err)?;
+        Ok(if failed == 0 { 0 } else { 1 })
+    } else {
+        render(rt, &task, output_of(rt.alloc(), matches)?, out)?;
+        Ok(0)
+    }
+}
+
+// The file that `hb render` writes. `-` is standard output, as is none.
+fn output_of<'m>(alloc: Global, matches: &ArgMatches<'m>) -> Result<Option<&'m str>, Failure> {
+    match matches.get_str("output") {
+        Some("") => Err(Failure::of_text(alloc, Kind::Arguments, "-o: expected a file")),
+        Some("-") => Ok(None),
+        file => Ok(file),
+    }
+}
+
+// Help and version are printed; any other refusal is a failure.
+fn explained<O: Write>(alloc: Global, refusal: &Error, out: &mut O) -> Result<(), Failure> {
+    if let ErrorKind::OutOfMemory = refusal.kind() {
+        return Err(Failure::out_of_memory());
+    }
+    if refusal.use_stderr() {
+        let message = format!(in alloc; "{refusal}")?;
+        let message = message.as_str().trim_end();
+        let message = message.strip_prefix("error: ").unwrap_or(message);
+        return Err(Failure::of_text(alloc, Kind::Arguments, message));
+    }
+    match write!(out, "{refusal}") {
+        Ok(()) => Ok(()),
+        Err(_) => Err(Failure::of_text(alloc, Kind::Output, "cannot write to standard output")),
+    }
+}
