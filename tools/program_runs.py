@@ -3,6 +3,8 @@
 A run is a folder RUN with these files. A missing file counts as empty, and a missing `status` as 0:
 
     args     the arguments, one a line
+    program  the program that is run, if it isn't that of the folder
+    stdin    the standard input
     status, stdout, stderr
              the expected exit status and output, to the byte
     asked    the paths that it has to open, one a line and in this order, that of a folder with a `/` after it; if there is
@@ -10,13 +12,17 @@ A run is a folder RUN with these files. A missing file counts as empty, and a mi
     refused  the system call that fails: an error and the path that it occurs for, as `ENOENT t.hbs`; with `ENOMEM` without a
              path the first request for memory fails
     closed   the stream whose reader is closed, `stdout` or `stderr`
+    links    the symbolic links that are there before it, one a line, a path and where it leads, as `b.txt ../a.txt`; `rt ci` takes
+             no links below crates
+    written  a folder of the files that it has to create or change, to the byte; it may create or change no other ones
 
-The runs of examples/NAME/runs are those of `hbs`, run in examples/NAME. The runs of crates/PROGRAM/runs/NAME are those of that
-program, run in crates/PROGRAM/runs/NAME, where their files are. A C compiler, `cc`, compiles the library that records the paths
-and makes calls fail (tools/refuse_files.c, tools/refuse_growth.c)."""
+A run happens in a copy of the folder where its files are. The runs of examples/NAME/runs are those of `hbs`, or of `hb` by a file
+`program`, run in examples/NAME. The runs of crates/PROGRAM/runs/NAME are those of that program, run in crates/PROGRAM/runs/NAME. A C
+compiler, `cc`, compiles the library that records the paths and makes calls fail (tools/refuse_files.c, tools/refuse_growth.c)."""
 import errno
 import os
 import pathlib
+import shutil
 import subprocess
 import tempfile
 
@@ -29,8 +35,9 @@ class Run:
     """A run: its program, the folder where it runs, and the folder that describes it."""
 
     def __init__(self, program, where, folder):
-        self.program, self.where, self.folder = TOP / f"crates/{program}/out/{program}", where, folder
-        self.name = str(folder.relative_to(TOP))
+        self.where, self.folder, self.name = where, folder, str(folder.relative_to(TOP))
+        program = self.given("program", program.encode()).decode().strip()
+        self.program = TOP / f"crates/{program}/out/{program}"
 
     def given(self, name, missing=b""):
         """The content of a file of the run."""
@@ -39,6 +46,7 @@ class Run:
 
     def wanted(self):
         ends = {"status": self.given("status", b"0\n"), **{it: self.given(it) for it in STREAMS}}
+        ends["written"] = listing(files_in(self.folder / "written"))
         asked = self.folder / "asked"
         return {**ends, "asked": asked.read_bytes()} if asked.exists() else ends
 
@@ -47,16 +55,39 @@ class Run:
         words = self.given("args").split(b"\n")[:-1]
         closed = self.given("closed").decode().split()
         with tempfile.TemporaryDirectory() as room:
+            where = pathlib.Path(room) / "where"
+            shutil.copytree(self.where, where, symlinks=True)
+            make_links(where, self.given("links").decode().splitlines())
+            before = files_in(where)
             asked = pathlib.Path(room) / "asked"
             env = {"LD_PRELOAD": refuser, "ASKED_FILES": str(asked), **error_of(self.given("refused").decode().split())}
             streams = {it: broken_pipe() if it in closed else subprocess.PIPE for it in STREAMS}
             ran = subprocess.run(
-                [self.program, *words], cwd=self.where, env=env, stdin=subprocess.DEVNULL, timeout=SECONDS, check=False, **streams
+                [self.program, *words], cwd=where, env=env, input=self.given("stdin"), timeout=SECONDS, check=False, **streams
             )
             for it in closed:
                 os.close(streams[it])
             ends = {"status": b"%d\n" % ran.returncode, "stdout": ran.stdout or b"", "stderr": ran.stderr or b""}
-            return {**ends, "asked": asked.read_bytes()}
+            written = {name: text for name, text in files_in(where).items() if before.get(name) != text}
+            return {**ends, "written": listing(written), "asked": asked.read_bytes()}
+
+
+def make_links(folder, lines):
+    """Makes the links of these lines in a folder."""
+    for path, leads_to in map(str.split, lines):
+        link = folder / path
+        link.parent.mkdir(parents=True, exist_ok=True)
+        link.symlink_to(leads_to)
+
+
+def files_in(folder):
+    """The files of a folder and of the folders in it, by their paths."""
+    return {str(it.relative_to(folder)): it.read_bytes() for it in sorted(folder.rglob("*")) if it.is_file() and not it.is_symlink()}
+
+
+def listing(files):
+    """The files, each under its path."""
+    return b"".join(b"== %s\n%s" % (name.encode(), text) for name, text in files.items())
 
 
 def error_of(words):
