@@ -76,15 +76,20 @@ struct Site<'s, R> {
 fn require_folder<R: System>(rt: &R, path: &str) -> Result<(), Failure> {
     match fs::metadata(rt, path) {
         Ok(found) if found.is_dir() => Ok(()),
-        Ok(_) => Err(Failure::new(
-            Kind::Arguments,
-            format!(in rt.alloc(); "-o {path}: not a folder"),
-        )),
+        Ok(_) => Err(not_a_folder(rt.alloc(), path)),
         Err(cause) => match cause.kind() {
             ErrorKind::NotFound => Ok(()),
+            ErrorKind::NotADirectory => Err(not_a_folder(rt.alloc(), path)),
             _ => Err(unlisted(rt.alloc(), path, &cause)),
         },
     }
+}
+
+fn not_a_folder(alloc: Global, path: &str) -> Failure {
+    Failure::new(
+        Kind::Arguments,
+        format!(in alloc; "-o {path}: not a folder"),
+    )
 }
 
 // Each word of the settings sets a key, also if there are no items to set it in.
@@ -168,6 +173,13 @@ fn build_whole<R: System, O: Write, E: Write>(
     err: &mut E,
 ) -> Result<u64, Failure> {
     let alloc = site.rt.alloc();
+    if site.task.sources.len() > 1 {
+        return Err(Failure::of_text(
+            alloc,
+            Kind::Arguments,
+            "without --each there can be one DATA only; set what its items share by -D",
+        ));
+    }
     let mut data = merged_data(site.rt, site.task)?;
     let Some(list) = data.as_array_mut() else {
         return Err(Failure::of_text(
