@@ -1,0 +1,11 @@
+pub mod Position
+pub mod Stepping
+pub mod Place
+pub mod Problem
+pub mod View
+pub mod Text
+pub mod Json
+pub mod Order
+pub mod Inserting
+pub mod Report
+pub mod Summary
