@@ -1,4 +1,4 @@
-//! Tells what is wrong with text files, as rustc tells it.
+//! Reports what is wrong with text files, as rustc does.
 //!
 //! A [`Problem`] is at a [`Place`] of a file. It is shown with the line of the file and carets under the range, or as JSON for
 //! editors and other programs. A [`Report`] has the problems of some files in order, and their [`Summary`].

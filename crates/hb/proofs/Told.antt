@@ -1,4 +1,4 @@
--- What is told of failures, and what is printed.
+-- What is reported of failures, and what is printed.
 use Rattle.std.proofs.Common.{◌≡◌, ◌≢◌, ◌⊎◌, Bool, true, false, true≢false, [], append-nil, Option, Some, None, Result, Ok, Err, IfErr, OnOk, refl, sym, ap, ◌∙◌, inl, inr}
 use Rattle.std.specs.Io.KnownBytes.{Appends}
 use Rattle.serde_json.specs.Data.{Data}
@@ -40,7 +40,7 @@ abbrev is_told_memory : BuildFailure → Bool
 is_told_memory fault.OutOfMemory = true
 is_told_memory (fault.Fault message) = false
 
--- what holds unless memory ran out holds where a fault is told
+-- what holds unless memory ran out holds where a fault is reported
 pub holds_of_fault : (f : Failure) (told : BuildFailure) (X : Type 0) → TellsFailure f told → (kind_of f ≢ OutOfMemory → X) → IfFault told X
 holds_of_fault f fault.OutOfMemory X tells why = tt
 holds_of_fault f (fault.Fault message) X tells why = why (λ is. true≢false (sym (ap is_told_memory (tells.memory is))))

@@ -34,7 +34,7 @@ abbrev pub kind_or_memory : Kind → source.Failure → Kind
 kind_or_memory kind fault.OutOfMemory = OutOfMemory
 kind_or_memory kind (fault.Fault message) = kind
 
--- what an error of the system is told as; one of memory stays one
+-- what a run fails for where the system reports an error; one of memory stays one
 abbrev pub kind_of_io : ErrorKind → Kind
 kind_of_io io.OutOfMemory = OutOfMemory
 kind_of_io kind = Arguments

@@ -18,7 +18,7 @@ module _ {S : Type 0} where
   Advances may old (Ok more) new = may old (Some more) new
   Advances may old (Err f) new = kind_of f ≢ OutOfMemory → may old None new
 
--- What a build is told of a failure: its message, or that memory ran out.
+-- What a build receives of a failure: its message, or that memory ran out.
 pub record TellsFailure (f : Failure) (told : BuildFailure) : Type 0 where
   pub memory : kind_of f ≡ OutOfMemory → told ≡ of_build.OutOfMemory
   pub fault : (message : String Global) → kind_of f ≢ OutOfMemory → message_of f ≡ Some message → told ≡ of_build.Fault message

@@ -272,7 +272,7 @@ fn build_items<'o, 's, R: System, I: Items + Drop, O: Write, E: Write>(
     teller.end_line();
     match answer {
         Ok(summary) => ended(alloc, &summary, &mut teller),
-        // The item that stopped the build is told of already.
+        // The item that stopped the build is reported already.
         Err(BuildError::Failed { .. }) if teller.failed > 0 => Ok(teller.failed),
         Err(cause) => Err(not_built(alloc, order.folder, source, line.get(), &cause)),
     }

@@ -1,4 +1,4 @@
-//! What is told of the items of a build.
+//! What is reported of the items of a build.
 
 use crate::counts::Grouped;
 use crate::order::Part;
@@ -8,8 +8,8 @@ use std::cell::Cell;
 use std::io;
 use std::io::Write;
 
-/// Tells of the items: in a dry run which files would be written, and always which items failed; and, if that is asked for,
-/// how many are done.
+/// Reports the items: in a dry run which files would be written, and always which items failed; and, if that is asked for, how
+/// many are done.
 #[derive(Drop)]
 pub struct Teller<'o, 't, 'l, O, E> {
     pub out: &'o mut O,
@@ -83,7 +83,7 @@ impl<O: Write, E: Write> Report for Teller<'_, '_, '_, O, E> {
     }
 }
 
-// Some hundred of the counts are told, and the last one.
+// Some hundred of the counts are reported, and the last one.
 fn is_told(done: u64, all: u64) -> bool {
     let step = all / 100 + 1;
     done % step == 0 || done == all

@@ -1,4 +1,4 @@
-//! What is told of an item that fails, and of a build that stops.
+//! What is reported of an item that fails, and of a build that stops.
 
 ghost use Rattle.std.specs.Prelude.{◌≡◌};
 ghost use Rattle.hb.specs.Failures.{kind_of_cause, kind_of_io, kind_of_stop, kind_or_memory};
@@ -71,7 +71,7 @@ impl fmt::Display for ItemFault<'_> {
     }
 }
 
-/// Returns the failure of a build that stopped with this error, which isn't that of an item that was told of. `line` is the
+/// Returns the failure of a build that stopped with this error, which isn't that of an item that was reported. `line` is the
 /// line of the current item in the source, if both are known.
 pub fn not_built(
     alloc: Global,
