@@ -1,0 +1,10 @@
+pub mod Adding
+pub mod Elements
+pub mod Mentioned
+pub mod Mentioning
+pub mod Named
+pub mod Reached
+pub mod Rows
+pub mod Targets
+pub mod Paged
+pub mod Circling

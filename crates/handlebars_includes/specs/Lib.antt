@@ -1,0 +1,9 @@
+pub mod Positions
+pub mod Mentions
+pub mod Graph
+pub mod Circles
+pub mod Reaching
+pub mod View
+pub mod Frames
+pub mod Hidden
+pub mod FrameView
