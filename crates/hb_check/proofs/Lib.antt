@@ -1,0 +1,11 @@
+pub mod Reports
+pub mod Sayings
+pub mod Finds
+pub mod Pages
+pub mod Ways
+pub mod Queue
+pub mod Chained
+pub mod Checkings
+pub mod Compilations
+pub mod Cleanness
+pub mod Floors

@@ -1,0 +1,10 @@
+use Rattle.std.proofs.Common.{◌≡◌, ◌++◌, map, string_bytes}
+use Rattle.handlebars_template.specs.TreeView.{tree_view}
+use Rattle.hb_check.specs.Sources.{numbered_of, templates_in}
+use Rattle.hb_check.proofs.sources.Sources.number.Given as goal
+
+-- Those that were listed, with those that are left, are all.
+abbrev pub invariant-sources : goal.invariant-sources
+invariant-sources l =
+    map numbered_of l.templates.items ++ map (λ p. (string_bytes p.0, tree_view p.1.template)) l.name-iterator
+    ≡ map numbered_of l.fn.templates.items ++ templates_in l.self

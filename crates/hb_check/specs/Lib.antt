@@ -1,0 +1,13 @@
+pub mod Codes
+pub mod Sources
+pub mod Place
+pub mod Reported
+pub mod Page
+pub mod Several
+pub mod Chains
+pub mod Growing
+pub mod Says
+pub mod Found
+pub mod Compiled
+pub mod Report
+pub mod Clean
