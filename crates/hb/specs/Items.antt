@@ -19,6 +19,6 @@ module _ {S : Type 0} where
   Advances may old (Err f) new = kind_of f ≢ OutOfMemory → may old None new
 
 -- What a build receives of a failure: its message, or that memory ran out.
-pub record TellsFailure (f : Failure) (told : BuildFailure) : Type 0 where
-  pub memory : kind_of f ≡ OutOfMemory → told ≡ of_build.OutOfMemory
-  pub fault : (message : String Global) → kind_of f ≢ OutOfMemory → message_of f ≡ Some message → told ≡ of_build.Fault message
+pub record ReportsFailure (f : Failure) (reported : BuildFailure) : Type 0 where
+  pub memory : kind_of f ≡ OutOfMemory → reported ≡ of_build.OutOfMemory
+  pub fault : (message : String Global) → kind_of f ≢ OutOfMemory → message_of f ≡ Some message → reported ≡ of_build.Fault message

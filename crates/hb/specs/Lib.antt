@@ -2,4 +2,5 @@ pub mod Failures
 pub mod Frames
 pub mod Items
 pub mod Pages
+pub mod Checks
 pub mod Advances

@@ -10,7 +10,7 @@ use crate::items::{Items, ListItems, PathItems, StreamItems};
 use crate::message::{out_of_range, unlisted, unreadable};
 use crate::order::Order;
 use crate::pages::Rendered;
-use crate::report::Teller;
+use crate::report::Reporter;
 use crate::setup::set_modes;
 use crate::stops::{item_at, not_built};
 use crate::store::Folder;
@@ -254,7 +254,7 @@ fn build_items<'o, 's, R: System, I: Items + Drop, O: Write, E: Write>(
         items,
     );
     let mut store = Folder::new(site.rt, order.folder);
-    let mut teller = Teller {
+    let mut reporter = Reporter {
         out,
         err,
         folder: order.folder,
@@ -268,12 +268,18 @@ fn build_items<'o, 's, R: System, I: Items + Drop, O: Write, E: Write>(
         is_open: false,
         is_broken: false,
     };
-    let answer = hb_build::build(alloc, &mut pages, &mut store, &order.settings, &mut teller);
-    teller.end_line();
+    let answer = hb_build::build(
+        alloc,
+        &mut pages,
+        &mut store,
+        &order.settings,
+        &mut reporter,
+    );
+    reporter.end_line();
     match answer {
-        Ok(summary) => ended(alloc, &summary, &mut teller),
+        Ok(summary) => ended(alloc, &summary, &mut reporter),
         // The item that stopped the build is reported already.
-        Err(BuildError::Failed { .. }) if teller.failed > 0 => Ok(teller.failed),
+        Err(BuildError::Failed { .. }) if reporter.failed > 0 => Ok(reporter.failed),
         Err(cause) => Err(not_built(alloc, order.folder, source, line.get(), &cause)),
     }
 }
@@ -282,14 +288,14 @@ fn build_items<'o, 's, R: System, I: Items + Drop, O: Write, E: Write>(
 fn ended<O: Write, E: Write>(
     alloc: Global,
     summary: &Summary,
-    teller: &mut Teller<'_, '_, '_, O, E>,
+    reporter: &mut Reporter<'_, '_, '_, O, E>,
 ) -> Result<u64, Failure> {
-    if teller.is_broken {
+    if reporter.is_broken {
         return Err(Failure::of_text(alloc, Kind::Output, "cannot write to standard output"));
     }
     if summary.failed > 0 {
-        let (failed, items) = (Grouped(summary.failed), Grouped(teller.done));
-        let _ = writeln!(teller.err, "hb: {failed} of {items} failed");
+        let (failed, items) = (Grouped(summary.failed), Grouped(reporter.done));
+        let _ = writeln!(reporter.err, "hb: {failed} of {items} failed");
     }
     Ok(summary.failed)
 }

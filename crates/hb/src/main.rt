@@ -1,17 +1,21 @@
-//! `hb`: renders templates over data. `hb render` writes one text, and `hb build` one file for each item of a list.
+//! `hb`: renders templates over data. `hb render` writes one text, `hb build` one file for each item of a list, `hb check` what is
+//! wrong with templates, and `hb origins` the pieces of a text with their origins.
 #![tactic(auto)]
 
 mod arguments;
 mod build;
+mod check;
 mod command;
 mod counts;
 mod failure;
 mod folders;
 mod frame;
+mod gathering;
 mod input;
 mod items;
 mod message;
 mod order;
+mod origins;
 mod output;
 mod pages;
 mod render;

@@ -5,7 +5,7 @@ ghost use Rattle.handlebars_base.specs.Reasons.{out_of_memory, template_out_of_m
 ghost use Rattle.handlebars_base.specs.RenderRefusals.{reason_in};
 ghost use Rattle.handlebars_base.specs.TemplateRefusals.{template_refusal_of};
 ghost use Rattle.hb.specs.Failures.{kind_of};
-ghost use Rattle.hb.specs.Items.{TellsFailure};
+ghost use Rattle.hb.specs.Items.{ReportsFailure};
 ghost use Rattle.hb.specs.declared.failure.Kind.TheVariants.{OutOfMemory};
 
 use crate::failure::{Failure, Kind};
@@ -168,7 +168,7 @@ pub fn out_of_range(alloc: Global, cause: &RenderError) -> Failure {
 
 /// Returns a failure for a build, with its message.
 pub fn without_prefix(failure: Failure) -> hb_build::Failure
-    ensures { TellsFailure failure result }
+    ensures { ReportsFailure failure result }
 {
     match failure.kind() {
         Kind::OutOfMemory => hb_build::Failure::OutOfMemory,

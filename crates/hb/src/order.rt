@@ -1,6 +1,6 @@
 //! What `hb build` is asked for beside the task.
 
-ghost use Rattle.std.specs.Prelude.{◌≡◌, ◌<◌, ◌≤◌, ◌+◌, ◌-◌, ◌*◌, ℕ};
+ghost use Rattle.std.specs.Prelude.{◌≡◌, ◌<◌, ◌≤◌, ◌+◌, ◌-◌, ◌*◌};
 
 use crate::failure::{Failure, Kind};
 use clap::ArgMatches;

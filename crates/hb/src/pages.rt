@@ -3,7 +3,6 @@
 ghost use Rattle.std.specs.Prelude.{◌≢◌, IfErr, IfOk, false, string_bytes, true};
 ghost use Rattle.handlebars_template.specs.TreeView.{tree_view};
 ghost use Rattle.hb.specs.Failures.{kind_of};
-ghost use Rattle.hb.specs.Items.{Advances, Rewinds};
 ghost use Rattle.hb.specs.Pages.{GivesNoPage, GivesPage, IsPage};
 ghost use Rattle.hb.specs.declared.failure.Kind.TheVariants.{OutOfMemory};
 

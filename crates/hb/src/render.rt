@@ -125,7 +125,8 @@ fn whole_text<E: UserParts>(
     )
 }
 
-fn write_out<O: Write>(alloc: Global, text: &str, out: &mut O) -> Result<(), Failure>
+/// Writes a text to standard output.
+pub fn write_out<O: Write>(alloc: Global, text: &str, out: &mut O) -> Result<(), Failure>
     ensures ok { OnOk result (Appends (O.contents out.old) (O.contents out.new) text.now) }
     ensures err { IfErr result (λ f. kind_of f ≢ OutOfMemory → kind_of f ≡ Output) }
 {

@@ -11,7 +11,7 @@ use std::io::Write;
 /// Reports the items: in a dry run which files would be written, and always which items failed; and, if that is asked for, how
 /// many are done.
 #[derive(Drop)]
-pub struct Teller<'o, 't, 'l, O, E> {
+pub struct Reporter<'o, 't, 'l, O, E> {
     pub out: &'o mut O,
     pub err: &'o mut E,
     pub folder: &'t str,
@@ -29,7 +29,7 @@ pub struct Teller<'o, 't, 'l, O, E> {
     pub is_broken: bool,
 }
 
-impl<O: Write, E: Write> Teller<'_, '_, '_, O, E> {
+impl<O: Write, E: Write> Reporter<'_, '_, '_, O, E> {
     fn list(&mut self, what: &str, name: &str) {
         let folder = self.folder;
         if self.dry_run && writeln!(self.out, "{what} {folder}/{name}").is_err() {
@@ -37,7 +37,7 @@ impl<O: Write, E: Write> Teller<'_, '_, '_, O, E> {
         }
     }
 
-    fn tell_failed(&mut self, item: u64, name: &str, cause: &Cause) {
+    fn report_failed(&mut self, item: u64, name: &str, cause: &Cause) {
         self.end_line();
         self.failed = self.failed.saturating_add(1);
         let at = item_at(self.source, self.line.get(), item);
@@ -49,7 +49,7 @@ impl<O: Write, E: Write> Teller<'_, '_, '_, O, E> {
         let _ = writeln!(self.err, "hb: {at}: {cause}");
     }
 
-    fn tell_progress(&mut self, all: u64) -> io::Result<()> {
+    fn report_progress(&mut self, all: u64) -> io::Result<()> {
         let (done, all) = (Grouped(self.done), Grouped(all));
         write!(self.err, "\rhb: {done} of {all}")?;
         self.is_open = true;
@@ -65,7 +65,7 @@ impl<O: Write, E: Write> Teller<'_, '_, '_, O, E> {
     }
 }
 
-impl<O: Write, E: Write> Report for Teller<'_, '_, '_, O, E> {
+impl<O: Write, E: Write> Report for Reporter<'_, '_, '_, O, E> {
     ghost reports = { λ _ _ _ _ _ _. Unit {0} };
 
     fn item(&mut self, item: u64, items: u64, name: &str, outcome: &Outcome) {
@@ -73,18 +73,18 @@ impl<O: Write, E: Write> Report for Teller<'_, '_, '_, O, E> {
             Outcome::Created => self.list("create", name),
             Outcome::Changed => self.list("change", name),
             Outcome::Unchanged => {}
-            Outcome::Failed(cause) => self.tell_failed(item, name, cause),
+            Outcome::Failed(cause) => self.report_failed(item, name, cause),
         }
         self.done = self.done.saturating_add(1);
         let all = self.part.size(items);
-        if self.progress && is_told(self.done, all) {
-            let _ = self.tell_progress(all);
+        if self.progress && is_reported(self.done, all) {
+            let _ = self.report_progress(all);
         }
     }
 }
 
 // Some hundred of the counts are reported, and the last one.
-fn is_told(done: u64, all: u64) -> bool {
+fn is_reported(done: u64, all: u64) -> bool {
     let step = all / 100 + 1;
     done % step == 0 || done == all
 }

@@ -1,14 +1,17 @@
 //! A run of the program.
 
 use crate::build::build;
+use crate::check::{CheckTask, check};
 use crate::command::program;
 use crate::failure::{Failure, Kind};
 use crate::order::Order;
+use crate::origins::origins;
 use crate::render::render;
 use crate::system::System;
 use crate::task::Task;
 use clap::error::ErrorKind;
 use clap::{ArgMatches, Error};
+use hb_origins::Form;
 use std::alloc::Global;
 use std::io::Write;
 
@@ -60,6 +63,21 @@ fn chosen<R: System, O: Write, E: Write>(
     let Some((name, matches)) = matches.subcommand() else {
         return Err(Failure::of_text(rt.alloc(), Kind::Arguments, "no subcommand"));
     };
+    if name == "check" {
+        check(rt, &CheckTask::of(matches, &[]), out)
+    } else {
+        rendered(rt, name, matches, out, err)
+    }
+}
+
+// Does what a subcommand that renders is asked for.
+fn rendered<R: System, O: Write, E: Write>(
+    rt: &R,
+    name: &str,
+    matches: &ArgMatches<'_>,
+    out: &mut O,
+    err: &mut E,
+) -> Result<u8, Failure> {
     let task = Task::of(matches, &[]);
     if task.standard_inputs() > 1 {
         return Err(Failure::of_text(
@@ -72,9 +90,23 @@ fn chosen<R: System, O: Write, E: Write>(
         let order = Order::of(rt.alloc(), matches)?;
         let failed = build(rt, &task, &order, out, err)?;
         Ok(if failed == 0 { 0 } else { 1 })
+    } else if name == "origins" {
+        origins(rt, &task, form_of(matches), out)?;
+        Ok(0)
     } else {
         render(rt, &task, output_of(rt.alloc(), matches)?, out)?;
         Ok(0)
+    }
+}
+
+// The form in which `hb origins` prints pieces.
+fn form_of(matches: &ArgMatches<'_>) -> Form {
+    if matches.get_flag("html") {
+        Form::Page
+    } else if matches.get_flag("marks") {
+        Form::Marks
+    } else {
+        Form::Lines
     }
 }
 

@@ -85,5 +85,5 @@ fn progress<'a>(alloc: Global) -> Arg<'a> {
     Arg::new(alloc, "progress")
         .long("progress")
         .action(ArgAction::SetTrue)
-        .help("Tell on standard error how many items are done")
+        .help("Report on standard error how many items are done")
 }

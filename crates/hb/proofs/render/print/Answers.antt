@@ -1,4 +1,4 @@
-use Rattle.hb.proofs.Told.{prints_nothing, prints_text}
+use Rattle.hb.proofs.Reported.{prints_nothing, prints_text}
 use Rattle.hb.proofs.render.print.Goals as goal
 
 pub returns-in-Ok : goal.returns-in-Ok

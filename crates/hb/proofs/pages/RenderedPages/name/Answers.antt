@@ -1,4 +1,4 @@
-use Rattle.hb.proofs.Told.{holds_of_fault}
+use Rattle.hb.proofs.Reported.{holds_of_fault}
 use Rattle.hb.proofs.pages.RenderedPages.name.Goals as goal
 
 pub returns-in-Err : goal.returns-in-Err

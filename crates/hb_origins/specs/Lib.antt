@@ -1,0 +1,4 @@
+pub mod Line
+pub mod Marks
+pub mod Printed
+pub mod Ends

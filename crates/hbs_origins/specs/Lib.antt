@@ -1,4 +1,0 @@
-pub mod Line
-pub mod Marks
-pub mod Printed
-pub mod Arguments
