@@ -15,9 +15,9 @@ ZSHDIR ?= $(DATADIR)/zsh/site-functions
 DOCDIR ?= $(DATADIR)/doc/hb
 INSTALL ?= install
 
-PAGES := hb.1 hb-render.1 hb-build.1
+PAGES := hb.1 hb-render.1 hb-build.1 hb-check.1 hb-origins.1
 # What a user of `hb` reads, in the folders in which it is here, so that links between documents hold.
-DOCUMENTS := LICENSE CHANGELOG.md $(addprefix docs/,HB.md GUIDE.md LANGUAGE.md FROM_HANDLEBARS_JS.md)
+DOCUMENTS := LICENSE CHANGELOG.md $(addprefix docs/,HB.md PROBLEMS.md NAMES.md HTML.md MARKUP.md GUIDE.md LANGUAGE.md FROM_HANDLEBARS_JS.md)
 EXAMPLES := $(sort $(shell find examples/mail_merge examples/report examples/site -type f ! -path '*/runs/*' ! -path '*/out/*'))
 # The newest version of the changelog, and its date.
 VERSION := $(shell awk '$$1 == "\043\043" { print $$2; exit }' CHANGELOG.md)

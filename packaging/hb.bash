@@ -5,7 +5,9 @@ _hb_options() {
     local common="--partials --define --format --refuse-fractions --strict --escape --limit --recursive --prevent-indent --help"
     case $1 in
         render) echo "--output $common" ;;
+        origins) echo "--marks --html $common" ;;
         build) echo "--output --to --each --dry-run --keep-going --shard --progress $common" ;;
+        check) echo "--partials --markup --html --message-format --help" ;;
         *) echo "--help --version" ;;
     esac
 }
@@ -14,6 +16,8 @@ _hb_options() {
 _hb_short_options() {
     case $1 in
         render | build) echo "-o -p -D -h" ;;
+        check) echo "-p -h" ;;
+        origins) echo "-p -D -h" ;;
         *) echo "-h -V" ;;
     esac
 }
@@ -38,13 +42,14 @@ _hb() {
         case $word in
             -) _hb_words "$(_hb_short_options) $(_hb_options)" "$word" ;;
             -*) _hb_words "$(_hb_options)" "$word" ;;
-            *) _hb_words "render build help" "$word" ;;
+            *) _hb_words "render build check origins help" "$word" ;;
         esac
         return
     fi
     case $before in
         --format) _hb_words "json jsonl toml csv tsv" "$word" ;;
         --escape) _hb_words "html none" "$word" ;;
+        --message-format) _hb_words "human json" "$word" ;;
         -p | --partials) _hb_files -d "$word" ;;
         -o | --output) [[ $command == build ]] && _hb_files -d "$word" || _hb_files -f "$word" ;;
         -D | --define | --limit | --to | --each | --shard) ;;

@@ -130,8 +130,10 @@ def check_of_html(size):
             others = [b"{{> p%d}}\n" % min(size - 1, it + 1 + 17 * step) for step in range(3) if it + 1 < size]
             put(folder + b"/p%d.hbs" % it, [b"<ul>\n", *others, (ITEM, 5_000 // len(ITEM)), b"</ul>\n"])
 
-    task = Task({"t.hbs": b"<!doctype html>{{> p0}}"}, ["--html", "t.hbs", "folder"], b"safe\n", folder=make)
-    task.program = "check"
+    words = ["check", "--html", "-p", "folder", "t.hbs"]
+    said = b"%d templates: no problems\n" % (size + 1)
+    task = Task({"t.hbs": b"<!doctype html>{{> p0}}"}, words, said, folder=make)
+    task.program = "hb"
     return task
 
 
