@@ -17,8 +17,6 @@ mod position;
 mod problem;
 mod report;
 mod summary;
-#[cfg(test)]
-mod tests;
 mod text;
 
 pub use place::Place;

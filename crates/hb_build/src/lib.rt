@@ -22,8 +22,6 @@ mod place;
 mod run;
 mod second;
 mod source;
-#[cfg(test)]
-mod tests;
 
 pub use error::BuildError;
 pub use files::{Standing, Store};
