@@ -13,3 +13,4 @@ pub mod Callees
 pub mod Walked
 pub mod Accepted
 pub mod CheckedAnswers
+pub mod Places

@@ -6,4 +6,5 @@ pub mod Check
 pub mod Law
 pub mod Search
 pub mod Checked
+pub mod TemplateNames
 pub mod NamesView

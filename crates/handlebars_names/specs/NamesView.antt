@@ -1,6 +1,6 @@
 -- How the definitions view the code's values.
-use Rattle.std.specs.Prelude.{◌≡◌, Bool, List, [], ◌∷◌, ◌++◌, map, Option, None, Some, option_map, string_bytes}
-use Rattle.handlebars_base.specs.Bytes.{Text}
+use Rattle.std.specs.Prelude.{◌≡◌, Bool, List, [], ◌∷◌, ◌++◌, map, Option, None, Some, option_map, String, string_bytes}
+use Rattle.std.specs.declared.alloc.Global.{Global}
 use Rattle.handlebars_template.specs.TreeView.{position_of, tree_view}
 use Rattle.handlebars_helpers.specs.UserAnswers.{Registrations}
 use Rattle.handlebars_html.specs.Ascii.{is_one_of}
@@ -11,6 +11,7 @@ use Rattle.handlebars_names.specs.Faults.{Why, faults_at}
 use Rattle.handlebars_names.specs.Names.{Names}
 use Rattle.handlebars_names.specs.Scopes as scopes
 use Rattle.handlebars_names.specs.Search as search
+pub use Rattle.handlebars_names.specs.TemplateNames.{name_of_template}
 use Rattle.handlebars_names.specs.declared.fault.Finding.{Finding}
 use Rattle.handlebars_names.specs.declared.fault.Finding.TheVariants as finding
 use Rattle.handlebars_names.specs.declared.fault.NameFault.{NameFault}
@@ -27,13 +28,12 @@ use Rattle.handlebars_names.specs.declared.location.Cause.{Cause}
 use Rattle.handlebars_names.specs.declared.location.Cause.TheVariants as cause
 use Rattle.handlebars_names.specs.declared.location.Location.{Location}
 use Rattle.handlebars_names.specs.declared.scope.Scope.{Scope}
-use Rattle.handlebars_names.specs.declared.table.Entry.{Entry}
 
 abbrev pub scope_of : Scope → scopes.Scope
 scope_of s = record { partials = map (λ n. n.now) s.partials.items; block = s.block }
 
-abbrev pub entry_of : Entry → scopes.Entry
-entry_of e = record { name = string_bytes e.name; scope = scope_of e.scope }
+abbrev pub entry_of : String Global × Scope → scopes.Entry
+entry_of e = record { name = string_bytes e.0; scope = scope_of e.1 }
 
 abbrev pub why_of : NameFaultReason → Why
 why_of (reason.MissingHelper n near) = faults.missing_helper (string_bytes n)
@@ -94,9 +94,6 @@ included_of (included.Partial n) = check.a_partial n.now
 
 -- ---- what a template is read by
 
-abbrev pub name_of_template : NamedTemplate → Text
-name_of_template t = t.name.now
-
 -- with what is registered beside templates
 abbrev pub names_in : Registrations → Bool → List NamedTemplate → Names
 names_in r sections templates = record {
@@ -107,10 +104,10 @@ names_in r sections templates = record {
 }
 
 abbrev pub names_at : Registrations → Known → Names
-names_at r k = names_in r k.sections k.templates.now
+names_at r k = names_in r k.sections k.templates.now.list.now
 
 abbrev pub table_at : Known → List scopes.Entry
-table_at k = map entry_of k.table.now
+table_at k = map entry_of k.table.now.entries
 
 abbrev pub page_of : Page → search.Page
 page_of (page.Source t) = search.a_source (tree_view t.now)

@@ -9,11 +9,12 @@ use crate::fault::{Finding, NameFault};
 use crate::known::{Known, Page};
 use crate::round::{are_entered, into_faults, round};
 use crate::search::extend;
-use crate::table::Entry;
+use crate::table::Table;
+use crate::templates::Templates;
 use handlebars_helpers::entries::UserParts;
 use handlebars_html::search::NamedTemplate;
 use std::alloc::{AllocError, Global};
-use std::collections::BTreeSet;
+use std::collections::{BTreeMap, BTreeSet};
 
 // How often all is read.
 const MOST_ROUNDS: usize = 1000;
@@ -53,21 +54,22 @@ fn verdict_by(faults: Vec<NameFault>) -> Verdict
 // ---- what is said
 
 // Returns what is said by this table, if it is closed. Otherwise adds what is included to it.
-fn decide<'t, E: UserParts>(
+fn decide<'k, 't, E: UserParts>(
     checked: CheckedNames<'_, 't>,
     entries: &E,
-    helpers: &BTreeSet<String>,
-    table: &mut Vec<Entry<'t>>,
+    helpers: &'k BTreeSet<String>,
+    templates: &'k Templates<'k, 't>,
+    table: &mut Table<'t>,
 ) -> Result<Option<Verdict>, AllocError>
     ensures { IfOk result (λ o. IfSome o (λ v. search.IsVerdict
-        (names_in (E.registered entries.now) checked.entry.sections checked.entry.templates.now)
-        (map template_of checked.entry.templates.now) (page_of checked.entry.page) (verdict_of v))) }
+        (names_in (E.registered entries.now) checked.entry.sections templates.now.list.now)
+        (map template_of templates.now.list.now) (page_of checked.entry.page) (verdict_of v))) }
 {
     let known = Known {
         alloc: checked.alloc,
         sections: checked.sections,
-        helpers,
-        templates: checked.templates,
+        helpers: &*helpers,
+        templates: &*templates,
         table,
     };
     let findings = round(checked.page, entries, known)?;
@@ -75,7 +77,7 @@ fn decide<'t, E: UserParts>(
         let faults = into_faults(findings, checked.alloc)?;
         return Ok(Some(verdict_by(faults)));
     }
-    extend(checked, entries, helpers, &findings, table)?;
+    extend(checked, entries, helpers, templates, &findings, table)?;
     Ok(None)
 }
 
@@ -92,9 +94,10 @@ pub fn check_names<E: UserParts>(
         (map template_of checked.entry.templates.now) (page_of checked.entry.page) (verdict_of v)) }
 {
     let helpers = entries.helper_names()?;
-    let mut table = Vec::new(checked.alloc);
+    let templates = Templates::new(checked.alloc, checked.templates)?;
+    let mut table = BTreeMap::new(checked.alloc);
     'rounds: for _ in 0..MOST_ROUNDS {
-        if let Some(verdict) = decide(checked, entries, &helpers, &mut table)? {
+        if let Some(verdict) = decide(checked, entries, &helpers, &templates, &mut table)? {
             return Ok(verdict);
         }
     }

@@ -9,7 +9,7 @@ ghost use Rattle.handlebars_names.specs.NamesView.{AddsFindings, cause_why, faul
 ghost use Rattle.handlebars_names.specs.Scopes as scopes;
 
 use crate::fault::Finding;
-use crate::known::{Known, has_template};
+use crate::known::Known;
 use crate::location::{Cause, Location, push_fault};
 use crate::scope::Scope;
 use handlebars_html::inclusion::inline_name;
@@ -52,9 +52,9 @@ pub fn included_by_name<'n>(current: Option<&str>, name: &'n str) -> Included<'n
 }
 
 fn is_there(name: &str, scope: &Scope<'_>, known: Known<'_, '_>) -> bool
-    ensures { result ≡ check.is_there (definitions.is_one_of (map name_of_template known.entry.templates.now)) (scope_of scope.now) name.now }
+    ensures { result ≡ check.is_there (definitions.is_one_of (map name_of_template known.entry.templates.now.list.now)) (scope_of scope.now) name.now }
 {
-    scope.has_partial(name) || has_template(known.templates, name)
+    scope.has_partial(name) || known.templates.has(name)
 }
 
 fn push_unless_body(
@@ -101,7 +101,7 @@ pub fn check_included(
     findings: &mut Vec<Finding<'_>>,
 ) -> Result<(), AllocError>
     ensures { OnOk result (AddsFindings findings.old.items findings.new.items
-        (faults_in location.entry (check.whys_of_included (definitions.is_one_of (map name_of_template known.entry.templates.now))
+        (faults_in location.entry (check.whys_of_included (definitions.is_one_of (map name_of_template known.entry.templates.now.list.now))
         (scope_of scope.now) (included_of included.entry) (body_view body.now)))) }
 {
     let alloc = known.alloc;
@@ -121,7 +121,7 @@ pub fn check_included(
         Included::Partial(name) => push_unless(
             is_there(name, scope, known),
             body,
-            Cause::MissingPartial(name, known.templates),
+            Cause::MissingPartial(name, known.templates.list()),
             alloc,
             location,
             findings,
@@ -136,7 +136,7 @@ pub fn block_scope<'t>(
     known: Known<'_, '_>,
 ) -> Result<Scope<'t>, AllocError>
     ensures { IfOk result (λ s. scope_of s ≡ check.block_scope
-        (definitions.is_one_of (map name_of_template known.entry.templates.now)) (scope_of scope.now) (included_of included.entry)) }
+        (definitions.is_one_of (map name_of_template known.entry.templates.now.list.now)) (scope_of scope.now) (included_of included.entry)) }
 {
     match included {
         Included::Made => scope.copy(known.alloc, scope.block),

@@ -15,5 +15,6 @@ mod search;
 mod spelling;
 mod table;
 mod tag;
+mod templates;
 mod tree;
 mod words;

@@ -10,10 +10,10 @@ ghost use Rattle.handlebars_names.specs.Faults as faults;
 ghost use Rattle.handlebars_names.specs.Search as search;
 
 use crate::fault::{Finding, NameFault};
-use crate::known::{Known, Page, has_template};
+use crate::known::{Known, Page};
 use crate::location::{Cause, Location, push_fault, push_included};
 use crate::scope::Scope;
-use crate::table::{Entry, scope_at};
+use crate::table::{Table, scope_at};
 use crate::tree::check_tree;
 use handlebars_helpers::entries::UserParts;
 use handlebars_html::search::NamedTemplate;
@@ -25,10 +25,10 @@ fn push_missing(
     findings: &mut Vec<Finding<'_>>,
 ) -> Result<(), AllocError>
     ensures { OnOk result (AddsFindings findings.old.items findings.new.items
-        (if definitions.is_one_of (map name_of_template known.entry.templates.now) name.now then []
+        (if definitions.is_one_of (map name_of_template known.entry.templates.now.list.now) name.now then []
         else faults.faults_at None None (faults.missing_partial name.now ∷ []))) }
 {
-    if has_template(known.templates, name) {
+    if known.templates.has(name) {
         return Ok(());
     }
     let nowhere = Location {
@@ -38,7 +38,7 @@ fn push_missing(
     push_fault(
         known.alloc,
         nowhere,
-        Cause::MissingPartial(name, known.templates),
+        Cause::MissingPartial(name, known.templates.list()),
         findings,
     )
 }
@@ -95,9 +95,9 @@ fn check_templates<'t, E: UserParts>(
 ) -> Result<(), AllocError>
     ensures { OnOk result (AddsFindings findings.old.items findings.new.items
         (search.templates_findings (names_at (E.registered entries.now) known.entry) (table_at known.entry)
-        (map template_of known.entry.templates.now))) }
+        (map template_of known.entry.templates.now.list.now))) }
 {
-    'templates: for named in known.templates {
+    'templates: for named in known.templates.list() {
         let scope = scope_at(known.table, named.name);
         check_under(scope, *named, entries, known, findings)?;
     }
@@ -115,7 +115,7 @@ pub fn round<'t, E: UserParts>(
     known: Known<'_, 't>,
 ) -> Result<Vec<Finding<'t>>, AllocError>
     ensures { IfOk result (λ fs. map finding_of fs.items ≡ search.round (names_at (E.registered entries.now) known.entry)
-        (table_at known.entry) (map template_of known.entry.templates.now) (page_of page.entry)) }
+        (table_at known.entry) (map template_of known.entry.templates.now.list.now) (page_of page.entry)) }
 {
     let mut findings = Vec::new(known.alloc);
     check_page(page, entries, known, &mut findings)?;
@@ -125,21 +125,21 @@ pub fn round<'t, E: UserParts>(
 
 // ---- what a round says
 
-fn is_entered(finding: &Finding<'_>, table: &[Entry<'_>]) -> bool
-    ensures { result ≡ search.is_entered (map entry_of table.now) (finding_of finding.now) }
+fn is_entered(finding: &Finding<'_>, table: &Table<'_>) -> bool
+    ensures { result ≡ search.is_entered (map entry_of table.now.entries) (finding_of finding.now) }
 {
     match finding {
         Finding::Fault(_) => true,
         Finding::Includes(name, scope) => match scope_at(table, name.as_str()) {
-            Some(entry) => entry.covers(scope),
+            Some(known) => known.covers(scope),
             None => false,
         },
     }
 }
 
 /// Returns whether all that is included is in the table, which has no more than is known there.
-pub fn are_entered(findings: &[Finding<'_>], table: &[Entry<'_>]) -> bool
-    ensures { result ≡ list_all (search.is_entered (map entry_of table.now)) (map finding_of findings.now) }
+pub fn are_entered(findings: &[Finding<'_>], table: &Table<'_>) -> bool
+    ensures { result ≡ list_all (search.is_entered (map entry_of table.now.entries)) (map finding_of findings.now) }
 {
     'findings: for finding in findings {
         if !is_entered(finding, table) {

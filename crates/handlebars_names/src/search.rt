@@ -4,7 +4,8 @@ use crate::check::CheckedNames;
 use crate::fault::Finding;
 use crate::known::Known;
 use crate::scope::Scope;
-use crate::table::{Entry, place_of};
+use crate::table::Table;
+use crate::templates::Templates;
 use crate::tree::check_tree;
 use handlebars_helpers::entries::UserParts;
 use std::alloc::{AllocError, Global};
@@ -26,96 +27,83 @@ fn meet<'t>(scope: &mut Scope<'t>, other: &Scope<'_>, alloc: Global) -> Result<(
     Ok(())
 }
 
-// Narrows the entry at this place, and has it wait, if it says more than is known here.
-fn narrow<'t>(
-    place: usize,
-    scope: &Scope<'t>,
-    alloc: Global,
-    table: &mut Vec<Entry<'t>>,
-    waiting: &mut Vec<usize>,
-) -> Result<(), AllocError> {
-    if let Some(entry) = table.get_mut(place) {
-        if !entry.scope.covers(scope) {
-            meet(&mut entry.scope, scope, alloc)?;
-            waiting.push(place)?;
-        }
-    }
-    Ok(())
-}
-
-// Enters that a name is included where this is known.
+// Enters that a name is included where this is known. Returns whether less is known of it now, or it is new.
 fn enter<'t>(
     name: &str,
     scope: &Scope<'t>,
     alloc: Global,
-    table: &mut Vec<Entry<'t>>,
-    waiting: &mut Vec<usize>,
-) -> Result<(), AllocError> {
-    if let Some(place) = place_of(table, name) {
-        return narrow(place, scope, alloc, table, waiting);
+    table: &mut Table<'t>,
+) -> Result<bool, AllocError> {
+    match table.get_mut(name) {
+        Some(entered) if entered.covers(scope) => Ok(false),
+        Some(entered) => {
+            meet(entered, scope, alloc)?;
+            Ok(true)
+        }
+        None => {
+            table.insert(
+                String::from_str(alloc, name)?,
+                scope.copy(alloc, scope.block)?,
+            )?;
+            Ok(true)
+        }
     }
-    waiting.push(table.len())?;
-    table.push(Entry {
-        name: String::from_str(alloc, name)?,
-        scope: scope.copy(alloc, scope.block)?,
-    })?;
-    Ok(())
 }
 
+// Enters what is included. Each name of which less is known now waits to be read.
 fn enter_all<'t>(
     findings: &[Finding<'t>],
     alloc: Global,
-    table: &mut Vec<Entry<'t>>,
-    waiting: &mut Vec<usize>,
+    table: &mut Table<'t>,
+    waiting: &mut Vec<String>,
 ) -> Result<(), AllocError> {
     for finding in findings {
         if let Finding::Includes(name, scope) = finding {
-            enter(name.as_str(), scope, alloc, table, waiting)?;
+            if enter(name.as_str(), scope, alloc, table)? {
+                waiting.push(String::from_str(alloc, name.as_str())?)?;
+            }
         }
     }
     Ok(())
 }
 
-// What is found in the template of an entry, if there is one.
+// What is found in the template of a name of the table, if there is one.
 fn findings_at<'t, E: UserParts>(
-    place: usize,
+    name: &str,
     entries: &E,
     known: Known<'_, 't>,
 ) -> Result<Vec<Finding<'t>>, AllocError> {
     let mut findings = Vec::new(known.alloc);
-    if let Some(entry) = known.table.get(place) {
-        for named in known.templates {
-            if named.name == entry.name.as_str() {
-                check_tree(
-                    named.template,
-                    &entry.scope,
-                    entries,
-                    known,
-                    Some(named.name),
-                    &mut findings,
-                )?;
-            }
-        }
+    if let (Some(scope), Some(named)) = (known.table.get(name), known.templates.find(name)) {
+        check_tree(
+            named.template,
+            scope,
+            entries,
+            known,
+            Some(named.name),
+            &mut findings,
+        )?;
     }
     Ok(findings)
 }
 
-fn read_template<'t, E: UserParts>(
-    place: usize,
+fn read_template<'k, 't, E: UserParts>(
+    name: &str,
     checked: CheckedNames<'_, 't>,
     entries: &E,
-    helpers: &BTreeSet<String>,
-    table: &mut Vec<Entry<'t>>,
-    waiting: &mut Vec<usize>,
+    helpers: &'k BTreeSet<String>,
+    templates: &'k Templates<'k, 't>,
+    table: &mut Table<'t>,
+    waiting: &mut Vec<String>,
 ) -> Result<(), AllocError> {
     let known = Known {
         alloc: checked.alloc,
         sections: checked.sections,
-        helpers,
-        templates: checked.templates,
+        helpers: &*helpers,
+        templates: &*templates,
         table,
     };
-    let findings = findings_at(place, entries, known)?;
+    let findings = findings_at(name, entries, known)?;
     enter_all(&findings, checked.alloc, table, waiting)
 }
 
@@ -125,19 +113,28 @@ fn read_template<'t, E: UserParts>(
 /// # Errors
 ///
 /// Fails if memory runs out.
-pub fn extend<'t, E: UserParts>(
+pub fn extend<'k, 't, E: UserParts>(
     checked: CheckedNames<'_, 't>,
     entries: &E,
-    helpers: &BTreeSet<String>,
+    helpers: &'k BTreeSet<String>,
+    templates: &'k Templates<'k, 't>,
     findings: &[Finding<'t>],
-    table: &mut Vec<Entry<'t>>,
+    table: &mut Table<'t>,
 ) -> Result<(), AllocError> {
     let mut waiting = Vec::new(checked.alloc);
     enter_all(findings, checked.alloc, table, &mut waiting)?;
     for _ in 0..MOST_READINGS {
         match waiting.pop() {
-            Some(place) => {
-                read_template(place, checked, entries, helpers, table, &mut waiting)?;
+            Some(name) => {
+                read_template(
+                    name.as_str(),
+                    checked,
+                    entries,
+                    helpers,
+                    templates,
+                    table,
+                    &mut waiting,
+                )?;
             }
             None => return Ok(()),
         }

@@ -16,7 +16,7 @@ use crate::included::{
 use crate::known::Known;
 use crate::location::{Cause, Location, push_fault, push_included};
 use crate::scope::Scope;
-use crate::table::{Entry, scope_at};
+use crate::table::{Table, scope_at};
 use crate::tag::check_decorator_tag;
 use handlebars_helpers::entries::UserParts;
 use handlebars_html::effect::written_name;
@@ -169,9 +169,9 @@ fn check_body<'t, E: UserParts>(
 
 // ---- inline partials
 
-fn inline_scope<'a, 't>(tag: &DecoratorTemplate, table: &'a [Entry<'t>]) -> Option<&'a Scope<'t>>
+fn inline_scope<'a, 't>(tag: &DecoratorTemplate, table: &'a Table<'t>) -> Option<&'a Scope<'t>>
     ensures { option_map (λ s. scope_of s.now) result
-        ≡ option_and_then (scopes.scope_at (map entry_of table.now)) (rule.inline_name (decorator_args (decorator_view tag.now))) }
+        ≡ option_and_then (scopes.scope_at (map entry_of table.now.entries)) (rule.inline_name (decorator_args (decorator_view tag.now))) }
 {
     match inline_name(&tag.params) {
         Some(name) => scope_at(table, name),

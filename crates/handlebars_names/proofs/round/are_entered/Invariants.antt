@@ -6,5 +6,5 @@ use Rattle.handlebars_names.proofs.round.are_entered.Given as goal
 
 abbrev pub invariant-findings : goal.invariant-findings
 invariant-findings l =
-    list_all (is_entered (map entry_of l.table)) (map finding_of (drop l.finding-index l.findings))
-    ≡ list_all (is_entered (map entry_of l.table)) (map finding_of l.findings)
+    list_all (is_entered (map entry_of l.table.entries)) (map finding_of (drop l.finding-index l.findings))
+    ≡ list_all (is_entered (map entry_of l.table.entries)) (map finding_of l.findings)
