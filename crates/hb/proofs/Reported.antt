@@ -10,12 +10,12 @@ use Rattle.handlebars.specs.declared.registry.RegistryOf.{RegistryOf}
 use Rattle.hb_build.specs.Given.{IfFault}
 use Rattle.hb_build.specs.declared.source.Failure.{Failure as BuildFailure}
 use Rattle.hb_build.specs.declared.source.Failure.TheVariants as fault
-use Rattle.hb.specs.Failures.{kind_of}
+use Rattle.hb_command.specs.Failures.{kind_of}
 use Rattle.hb.specs.Items.{ReportsFailure}
 use Rattle.hb.specs.Pages.{GivesNoPage, GivesPage, Prints, printed, not_rendered, not_written, no_memory}
-use Rattle.hb.specs.declared.failure.Failure.{Failure}
-use Rattle.hb.specs.declared.failure.Kind.{Kind}
-use Rattle.hb.specs.declared.failure.Kind.TheVariants.{Arguments, Input, Template, Rendering, Output, OutOfMemory}
+use Rattle.hb_command.specs.declared.failure.Failure.{Failure}
+use Rattle.hb_command.specs.declared.failure.Kind.{Kind}
+use Rattle.hb_command.specs.declared.failure.Kind.TheVariants.{Arguments, Input, Template, Rendering, Output, OutOfMemory}
 
 abbrev is_memory : Kind → Bool
 is_memory Arguments = false

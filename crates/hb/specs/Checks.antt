@@ -1,5 +1,7 @@
 -- What `hb check` says.
-use Rattle.std.specs.Prelude.{◌≡◌, ℕ, ◌==◌, if◌then◌else◌, Bool, true, false, List, ◌++◌, codes, decimal, length, map, string_bytes}
+use Rattle.std.specs.List.{AllZip, Contains}
+use denote.Ref.{Bor}
+use Rattle.std.specs.Prelude.{◌≡◌, ◌⊎◌, ℕ, ◌==◌, if◌then◌else◌, Bool, true, false, List, ◌++◌, codes, decimal, length, map, string_bytes}
 use Rattle.handlebars_base.specs.Bytes.{Text}
 use Rattle.handlebars_helpers.specs.UserAnswers.{Registrations, UserAnswers}
 use Rattle.handlebars_report.specs.Json.{json_lines}
@@ -9,6 +11,7 @@ use Rattle.handlebars_report.specs.Summary.{summary_of, summary_text}
 use Rattle.hb_check.specs.Report.{IsReport}
 use Rattle.hb_check.specs.declared.question.File.{File}
 use Rattle.hb_check.specs.declared.question.Question.{Question}
+use Rattle.hb_command.specs.Failures.{shown_path}
 use Rattle.hb.specs.declared.check.CheckTask.{CheckTask}
 use Rattle.hb.specs.declared.gathering.Gathered.{Gathered}
 use Rattle.hb.specs.declared.gathering.OwnedFile.{OwnedFile}
@@ -35,6 +38,27 @@ pages_of g = map string_bytes g.pages.items
 
 abbrev pub count_of : Gathered → ℕ
 count_of g = length g.files.items
+
+-- ---- pages
+
+-- A path is the other one, with or without `./` before it.
+abbrev pub IsPlain : Text → Text → Type 0
+IsPlain path plain = (path ≡ plain) ⊎ (path ≡ codes "./" ++ plain)
+
+abbrev pub IsSamePath : Text → Text → Type 0
+IsSamePath p q = (plain : Text) × IsPlain p plain × IsPlain q plain
+
+-- A file is that of an argument: it is at this path, or it was read there.
+abbrev pub IsFileAt : Text → FileText → Type 0
+IsFileAt path f = IsSamePath f.path path ⊎ (f.path ≡ shown_path path)
+
+-- The page of this name is one of the files, that of this argument.
+abbrev pub IsPageAt : List FileText → Text → Text → Type 0
+IsPageAt files name path = (f : FileText) × Contains files f × (f.name ≡ name) × IsFileAt path f
+
+-- The pages are the templates that are named, in order.
+abbrev pub ArePages : Gathered → List (Bor Text) → Type 0
+ArePages g templates = AllZip (IsPageAt (files_of g)) (pages_of g) (map (λ t. t.now) templates)
 
 -- ---- what is said
 

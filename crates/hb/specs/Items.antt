@@ -3,9 +3,9 @@ use Rattle.std.specs.Prelude.{◌≡◌, ◌≢◌, Bool, true, false, Option, S
 use Rattle.std.specs.declared.alloc.Global.{Global}
 use Rattle.hb_build.specs.declared.source.Failure.{Failure as BuildFailure}
 use Rattle.hb_build.specs.declared.source.Failure.TheVariants as of_build
-use Rattle.hb.specs.Failures.{kind_of, message_of}
-use Rattle.hb.specs.declared.failure.Failure.{Failure}
-use Rattle.hb.specs.declared.failure.Kind.TheVariants.{OutOfMemory}
+use Rattle.hb_command.specs.Failures.{kind_of, message_of}
+use Rattle.hb_command.specs.declared.failure.Failure.{Failure}
+use Rattle.hb_command.specs.declared.failure.Kind.TheVariants.{OutOfMemory}
 
 module _ {S : Type 0} where
   -- A rewind succeeds, or not. When memory runs out, nothing is said.

@@ -1,4 +1,3 @@
-pub mod Failures
 pub mod Frames
 pub mod Items
 pub mod Pages

@@ -11,9 +11,9 @@ use Rattle.handlebars_semantics.specs.State.{State}
 use Rattle.handlebars_write.specs.View.{GivesString, StringFails}
 use Rattle.handlebars.specs.View.{modes_of, setting_over}
 use Rattle.handlebars.specs.declared.registry.RegistryOf.{RegistryOf}
-use Rattle.hb.specs.Failures.{kind_of}
-use Rattle.hb.specs.declared.failure.Failure.{Failure}
-use Rattle.hb.specs.declared.failure.Kind.TheVariants.{Output, OutOfMemory}
+use Rattle.hb_command.specs.Failures.{kind_of}
+use Rattle.hb_command.specs.declared.failure.Failure.{Failure}
+use Rattle.hb_command.specs.declared.failure.Kind.TheVariants.{Output, OutOfMemory}
 
 module _ {E : Type 0} (registered : E → Registrations) (user : E → UserAnswers) (r : RegistryOf E) where
   -- the state in which a template of an item is rendered: with the registry's lookup, and with escaping or, as names are, raw

@@ -1,25 +1,26 @@
 //! `hb build`.
 
-use crate::counts::Grouped;
-use crate::failure::{Failure, Kind};
 use crate::folders::register_folders;
-use crate::input::{
-    format_of, merged_data, read_bytes, read_template, set_all, set_in_item, whole_data,
-};
 use crate::items::{Items, ListItems, PathItems, StreamItems};
-use crate::message::{out_of_range, unlisted, unreadable};
-use crate::order::Order;
+use crate::message::out_of_range;
 use crate::pages::Rendered;
-use crate::report::Reporter;
 use crate::setup::set_modes;
-use crate::stops::{item_at, not_built};
-use crate::store::Folder;
-use crate::system::System;
-use crate::task::Task;
 use crate::text::{Places, compile};
 use handlebars::{Context, FileReader, Registry, RenderContext, ScopedJson, Template};
 use handlebars_data::Format;
 use hb_build::{BuildError, Summary};
+use hb_command::counts::Grouped;
+use hb_command::failure::{Failure, Kind};
+use hb_command::input::{
+    format_of, merged_data, read_bytes, read_template, set_all, set_in_item, whole_data,
+};
+use hb_command::message::{unlisted, unreadable};
+use hb_command::order::Order;
+use hb_command::report::Reporter;
+use hb_command::stops::{item_at, not_built};
+use hb_command::store::Folder;
+use hb_command::system::System;
+use hb_command::task::Task;
 use serde_json::{Map, Value};
 use std::alloc::Global;
 use std::cell::Cell;

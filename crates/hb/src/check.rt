@@ -1,19 +1,20 @@
 //! `hb check`.
 
 ghost use Rattle.std.specs.Io.KnownBytes.{Appends};
-ghost use Rattle.std.specs.Prelude.{◌≡◌, IfOk, List, OnOk, string_bytes};
+ghost use Rattle.std.specs.Prelude.{◌≡◌, ◌≤◌, IfOk, List, OnOk, string_bytes};
 ghost use Rattle.handlebars_report.specs.Problem.{Problem};
 ghost use Rattle.handlebars_report.specs.Report.{report_view};
-ghost use Rattle.hb.specs.Checks.{Checks, count_of, noun_for, printed_text, status_by, text_for_people};
+ghost use Rattle.hb.specs.declared.gathering.Gathered.{Gathered};
+ghost use Rattle.hb.specs.Checks.{ArePages, Checks, count_of, noun_for, printed_text, status_by, text_for_people};
 
-use crate::failure::{Failure, Kind};
 use crate::gathering::{Gathered, gather};
 use crate::render::write_out;
-use crate::system::System;
 use clap::ArgMatches;
 use handlebars::{BoxedEntries, UserParts};
 use handlebars_report::Report;
 use hb_check::Question;
+use hb_command::failure::{Failure, Kind};
+use hb_command::system::System;
 use std::alloc::{AllocError, Global};
 use std::io::Write;
 
@@ -45,7 +46,9 @@ pub fn check<R: System, O: Write>(
     rt: &R,
     task: &CheckTask<'_, '_>,
     out: &mut O,
-) -> Result<u8, Failure> {
+) -> Result<u8, Failure>
+    ensures { IfOk result (λ status. status ≤ 1) }
+{
     if task.folders.is_empty() && task.templates.is_empty() {
         return Err(Failure::of_text(
             rt.alloc(),
@@ -53,9 +56,25 @@ pub fn check<R: System, O: Write>(
             "name a template, or a folder by -p",
         ));
     }
-    let gathered = gather(rt, task.folders, task.templates)?;
     let entries = BoxedEntries::first(rt.alloc())?;
-    check_gathered(rt.alloc(), &entries, task, &gathered, out)
+    check_over(rt, &entries, task, out)
+}
+
+// Checks over these helpers, decorators and escape function.
+fn check_over<R: System, E: UserParts, O: Write>(
+    rt: &R,
+    entries: &E,
+    task: &CheckTask<'_, '_>,
+    out: &mut O,
+) -> Result<u8, Failure>
+    ensures most { IfOk result (λ status. status ≤ 1) }
+    ensures ok { IfOk result (λ status. (g : Gathered) × ArePages g task.now.templates.now × (ps : List Problem)
+        × Checks (E.registered entries.now) (E.user entries.now) g task.now ps × (status ≡ status_by ps)
+        × Appends (O.contents out.old) (O.contents out.new) (printed_text task.now.json (count_of g) ps)) }
+{
+    let gathered = gather(rt, task.folders, task.templates)?;
+    let status = check_gathered(rt.alloc(), entries, task, &gathered, out)?;
+    Ok(status)
 }
 
 fn check_gathered<E: UserParts, O: Write>(
@@ -65,6 +84,7 @@ fn check_gathered<E: UserParts, O: Write>(
     gathered: &Gathered,
     out: &mut O,
 ) -> Result<u8, Failure>
+    ensures most { IfOk result (λ status. status ≤ 1) }
     ensures ok { IfOk result (λ status. (ps : List Problem)
         × Checks (E.registered entries.now) (E.user entries.now) gathered.now task.now ps × (status ≡ status_by ps)
         × Appends (O.contents out.old) (O.contents out.new) (printed_text task.now.json (count_of gathered.now) ps)) }
@@ -127,7 +147,8 @@ fn noun_for(count: usize) -> &'static str
 
 // The status of a check: 1 if there is an error, and else 0.
 fn status_of(report: &Report) -> u8
-    ensures { result ≡ status_by (report_view report.now) }
+    ensures is { result ≡ status_by (report_view report.now) }
+    ensures most { result ≤ 1 }
 {
     if report.summary().errors == 0 { 0 } else { 1 }
 }

@@ -1,10 +1,11 @@
 //! The folders of templates that are registered.
 
-use crate::failure::{Failure, Kind};
-use crate::message::{rejected, unlisted, unreadable};
+use crate::message::rejected;
 use handlebars::{
     DirectorySourceOptions, EntryKind, Registry, TemplateError, TemplateErrorReason, TemplateReader,
 };
+use hb_command::failure::{Failure, Kind};
+use hb_command::message::{unlisted, unreadable};
 use std::alloc::{AllocError, Global};
 use std::io;
 

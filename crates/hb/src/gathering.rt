@@ -1,15 +1,17 @@
 //! The files that are checked.
 
-ghost use Rattle.std.specs.Prelude.{◌≡◌, None, Ok, OnOk};
+ghost use Rattle.std.specs.Prelude.{◌≡◌, IfErr, IfOk, None, Ok, OnOk, true};
+ghost use Rattle.hb.specs.Checks.{ArePages, IsPlain, IsSamePath};
+ghost use Rattle.hb_command.specs.Failures.{EndsWith};
 
-use crate::failure::{Failure, Kind};
-use crate::input::read_template;
-use crate::message::{shown, unlisted, unreadable};
-use crate::system::System;
 use handlebars::{
     DirectorySourceOptions, EntryKind, FileReader, Registry, TemplateError, TemplateReader,
 };
 use hb_check::File;
+use hb_command::failure::{Failure, Kind};
+use hb_command::input::read_template;
+use hb_command::message::{shown, unlisted, unreadable};
+use hb_command::system::System;
 use std::alloc::{AllocError, Global};
 use std::{fs, io};
 
@@ -29,10 +31,14 @@ struct OwnedFile {
 }
 
 impl Gathered {
-    ghost use Rattle.std.specs.Prelude.{◌≡◌, IfOk, map};
-    ghost use Rattle.hb.specs.Checks.{count_of, file_text, files_of, pages_of};
+    ghost use Rattle.std.specs.Prelude.{◌≡◌, ◌∷◌, ◌++◌, [], IfErr, IfOk, IfSome, List, OnOk, map, string_bytes};
+    ghost use Rattle.handlebars_base.specs.Bytes.{Text};
+    ghost use Rattle.hb.specs.Checks.{FileText, IsPageAt, count_of, file_text, files_of, pages_of};
+    ghost use Rattle.hb_command.specs.Failures.{EndsWith};
 
-    fn new(alloc: Global) -> Gathered {
+    fn new(alloc: Global) -> Gathered
+        ensures { pages_of result ≡ [] }
+    {
         Gathered {
             files: Vec::new(alloc),
             pages: Vec::new(alloc),
@@ -72,53 +78,109 @@ impl Gathered {
         Ok(pages)
     }
 
-    // Adds a file of a folder.
-    fn add_file(&mut self, name: String, path: String, text: String) -> Result<(), AllocError> {
-        self.files.push(OwnedFile { name, path, text })?;
+    // Adds the file of a path as a page. It is read if it is none of a folder.
+    fn add_page<R: System>(&mut self, rt: &R, path: &str) -> Result<(), Failure>
+        ensures files { OnOk result ((more : List FileText) × (files_of self.new ≡ files_of self.old ++ more)) }
+        ensures page { OnOk result ((name : Text) × (pages_of self.new ≡ pages_of self.old ++ name ∷ [])
+            × IsPageAt (files_of self.new) name path.now) }
+        ensures err { IfErr result (λ f. EndsWith 2 f) }
+    {
+        let name = self.page_at(rt, path)?;
+        self.pages.push(name)?;
         Ok(())
     }
 
-    // Adds the name of the file of this path as a page, if it is one of a folder.
-    fn add_page_of(&mut self, alloc: Global, path: &str) -> Result<bool, AllocError> {
-        for file in &self.files {
+    // Returns the name of the file of a path. It is read if it is none of a folder.
+    fn page_at<R: System>(&mut self, rt: &R, path: &str) -> Result<String, Failure>
+        ensures pages { pages_of self.new ≡ pages_of self.old }
+        ensures files { OnOk result ((more : List FileText) × (files_of self.new ≡ files_of self.old ++ more)) }
+        ensures page { IfOk result (λ name. IsPageAt (files_of self.new) (string_bytes name) path.now) }
+        ensures err { IfErr result (λ f. EndsWith 2 f) }
+    {
+        match self.name_at(path) {
+            Some(name) => Ok(String::from_str(rt.alloc(), name)?),
+            None => self.read_page(rt, path),
+        }
+    }
+
+    // Returns the name of the file of a folder that is at a path, if one is.
+    fn name_at(&self, path: &str) -> Option<&str>
+        ensures { IfSome result (λ name. IsPageAt (files_of self.now) name.now path.now) }
+    {
+        'files: for file in &self.files {
             if is_same_path(file.path.as_str(), path) {
-                self.pages
-                    .push(String::from_str(alloc, file.name.as_str())?)?;
-                return Ok(true);
+                return Some(file.name.as_str());
             }
         }
-        Ok(false)
+        None
+    }
+
+    // Reads a template that is in no folder, and returns its name. No partial call has it.
+    fn read_page<R: System>(&mut self, rt: &R, path: &str) -> Result<String, Failure>
+        ensures pages { pages_of self.new ≡ pages_of self.old }
+        ensures files { OnOk result ((more : List FileText) × (files_of self.new ≡ files_of self.old ++ more)) }
+        ensures page { IfOk result (λ name. IsPageAt (files_of self.new) (string_bytes name) path.now) }
+        ensures err { IfErr result (λ f. EndsWith 2 f) }
+    {
+        let text = page_text(rt, path)?;
+        let name = format!(in rt.alloc(); "\0{path}")?;
+        self.files.push(OwnedFile {
+            name: String::from_str(rt.alloc(), name.as_str())?,
+            path: String::from_str(rt.alloc(), shown(path))?,
+            text,
+        })?;
+        Ok(name)
     }
 }
 
-fn is_same_path(left: &str, right: &str) -> bool {
+// Reads a template. One that is a folder is a failure.
+fn page_text<R: System>(rt: &R, path: &str) -> Result<String, Failure>
+    ensures { IfErr result (λ f. EndsWith 2 f) }
+{
+    if is_folder(rt, path) {
+        return Err(Failure::new(
+            Kind::Arguments,
+            format!(in rt.alloc(); "\"{path}\" is a folder: name it by -p"),
+        ));
+    }
+    read_template(rt, path)
+}
+
+fn is_same_path(left: &str, right: &str) -> bool
+    ensures { result ≡ true → IsSamePath left.now right.now }
+{
     plain(left) == plain(right)
 }
 
-fn plain(path: &str) -> &str {
-    path.strip_prefix("./").unwrap_or(path)
+fn plain(path: &str) -> &str
+    ensures { IsPlain path.now result.now }
+{
+    match path.strip_prefix("./") {
+        Some(rest) => rest,
+        None => path,
+    }
 }
 
 /// Reads the files of folders, in order, and then these templates. A template that is a file of a folder is read once.
-pub fn gather<R: System>(
-    rt: &R,
-    folders: &[&str],
-    templates: &[&str],
-) -> Result<Gathered, Failure> {
+///
+/// # Errors
+///
+/// Fails if a folder can't be listed, if a file can't be read, or if memory runs out.
+pub fn gather<R: System>(rt: &R, folders: &[&str], templates: &[&str]) -> Result<Gathered, Failure>
+    ensures { IfOk result (λ g. ArePages g templates.now) }
+{
     let mut gathered = Gathered::new(rt.alloc());
     let mut files = FileReader::new(rt, rt.alloc());
-    for folder in folders {
+    'folders: for folder in folders {
         gather_folder(
             rt.alloc(),
             folder.trim_end_matches('/'),
             &mut files,
-            &mut gathered,
+            &mut gathered.files,
         )?;
     }
-    for path in templates {
-        if !gathered.add_page_of(rt.alloc(), path)? {
-            gather_page(rt, path, &mut gathered)?;
-        }
+    'templates: for path in templates {
+        gathered.add_page(rt, path)?;
     }
     Ok(gathered)
 }
@@ -130,36 +192,18 @@ fn is_folder<R: System>(rt: &R, path: &str) -> bool {
     }
 }
 
-// Reads a template that is in no folder. No partial call has its name.
-fn gather_page<R: System>(rt: &R, path: &str, gathered: &mut Gathered) -> Result<(), Failure> {
-    let alloc = rt.alloc();
-    if is_folder(rt, path) {
-        return Err(Failure::new(
-            Kind::Arguments,
-            format!(in alloc; "\"{path}\" is a folder: name it by -p"),
-        ));
-    }
-    let text = read_template(rt, path)?;
-    let name = format!(in alloc; "\0{path}")?;
-    gathered
-        .pages
-        .push(String::from_str(alloc, name.as_str())?)?;
-    gathered.add_file(name, String::from_str(alloc, shown(path))?, text)?;
-    Ok(())
-}
-
 // Reads the files of a folder as a registry does that registers it, but for a folder that can't be listed, which is a failure.
 fn gather_folder<F: TemplateReader>(
     alloc: Global,
     folder: &str,
     files: &mut F,
-    gathered: &mut Gathered,
+    found: &mut Vec<OwnedFile>,
 ) -> Result<(), Failure> {
     let mut reader = Gathering {
         alloc,
         folder,
         files,
-        gathered,
+        found,
         failure: None,
     };
     let mut registry = Registry::new(alloc)?;
@@ -191,7 +235,7 @@ struct Gathering<'g, F> {
     alloc: Global,
     folder: &'g str,
     files: &'g mut F,
-    gathered: &'g mut Gathered,
+    found: &'g mut Vec<OwnedFile>,
     failure: Option<Failure>,
 }
 
@@ -236,7 +280,8 @@ impl<F> Gathering<'_, F> {
     fn keep(&mut self, path: &str, text: String) -> Result<(), AllocError> {
         let name = String::from_str(self.alloc, name_in(self.folder, path))?;
         let path = String::from_str(self.alloc, path)?;
-        self.gathered.add_file(name, path, text)
+        self.found.push(OwnedFile { name, path, text })?;
+        Ok(())
     }
 }
 

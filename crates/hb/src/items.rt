@@ -11,8 +11,8 @@ ghost use Rattle.handlebars_semantics.specs.State.{State};
 ghost use Rattle.handlebars_context.specs.View.{state_of, has_failed};
 ghost use Rattle.hb.specs.Items.{Advances, Rewinds};
 
-use crate::failure::Failure;
 use handlebars::{Context, RenderContext};
+use hb_command::failure::Failure;
 pub use list::ListItems;
 pub use path::PathItems;
 use std::alloc::{AllocError, Global};

@@ -1,91 +1,24 @@
-//! The messages of failures: the file, the position where it is known, and what is wrong.
+//! The messages of templates that don't compile and of renderings that fail: the file, the position where it is known, and what is wrong.
 
 ghost use Rattle.std.specs.Prelude.{◌≡◌, ◌≢◌};
 ghost use Rattle.handlebars_base.specs.Reasons.{out_of_memory, template_out_of_memory};
 ghost use Rattle.handlebars_base.specs.RenderRefusals.{reason_in};
 ghost use Rattle.handlebars_base.specs.TemplateRefusals.{template_refusal_of};
-ghost use Rattle.hb.specs.Failures.{kind_of};
+ghost use Rattle.hb_command.specs.Failures.{EndsWith, kind_of};
 ghost use Rattle.hb.specs.Items.{ReportsFailure};
-ghost use Rattle.hb.specs.declared.failure.Kind.TheVariants.{OutOfMemory};
+ghost use Rattle.hb_command.specs.declared.failure.Kind.TheVariants.{OutOfMemory};
 
-use crate::failure::{Failure, Kind};
 use crate::text::Places;
 use handlebars::{RenderError, RenderErrorReason, TemplateError, TemplateErrorReason};
-use handlebars_data::DataError;
+use hb_command::failure::{Failure, Kind};
+use hb_command::message::shown;
 use std::alloc::{AllocError, Global};
-use std::io::ErrorKind;
-use std::{fmt, io};
-
-/// Returns the name of a path in messages. `-` is standard input.
-pub fn shown(path: &str) -> &str {
-    if path == "-" { "<stdin>" } else { path }
-}
-
-/// Returns the failure of a file that can't be read.
-pub fn unreadable(alloc: Global, path: &str, cause: &io::Error) -> Failure {
-    let path = shown(path);
-    match cause.kind() {
-        ErrorKind::OutOfMemory => Failure::out_of_memory(),
-        ErrorKind::NotFound => Failure::new(Kind::Input, format!(in alloc; "no file \"{path}\"")),
-        ErrorKind::InvalidData => Failure::new(Kind::Input, format!(in alloc; "{path}: not UTF-8")),
-        kind => Failure::new(
-            Kind::Input,
-            format!(in alloc; "cannot read \"{path}\": {kind}"),
-        ),
-    }
-}
-
-/// Returns the failure of a folder that can't be listed.
-pub fn unlisted(alloc: Global, path: &str, cause: &io::Error) -> Failure {
-    match cause.kind() {
-        ErrorKind::OutOfMemory => Failure::out_of_memory(),
-        ErrorKind::NotFound | ErrorKind::NotADirectory => Failure::new(
-            Kind::Input,
-            format!(in alloc; "no folder \"{path}\""),
-        ),
-        kind => Failure::new(
-            Kind::Input,
-            format!(in alloc; "cannot read the folder \"{path}\": {kind}"),
-        ),
-    }
-}
-
-/// Returns the failure of an output that can't be written.
-pub fn unwritable(alloc: Global, path: &str, cause: &io::Error) -> Failure {
-    match cause.kind() {
-        ErrorKind::OutOfMemory => Failure::out_of_memory(),
-        ErrorKind::NotFound => Failure::new(
-            Kind::Output,
-            format!(in alloc; "cannot write \"{path}\": its folder is not there"),
-        ),
-        kind => Failure::new(
-            Kind::Output,
-            format!(in alloc; "cannot write \"{path}\": {kind}"),
-        ),
-    }
-}
-
-/// Returns the failure of data that can't be read.
-pub fn not_data(alloc: Global, path: &str, cause: &DataError) -> Failure {
-    if cause.is_memory() {
-        return Failure::out_of_memory();
-    }
-    Failure::new(Kind::Input, placed(alloc, path, cause))
-}
-
-fn placed(alloc: Global, path: &str, cause: &DataError) -> Result<String, AllocError> {
-    let path = shown(path);
-    let (line, column, kind) = (cause.line(), cause.column(), cause.kind());
-    if line == 0 {
-        format!(in alloc; "{path}: {kind}")
-    } else {
-        format!(in alloc; "{path}:{line}:{column}: {kind}")
-    }
-}
+use std::fmt;
 
 /// Returns the failure of a template, in a file of this path, that doesn't compile.
 pub fn rejected(alloc: Global, path: &str, cause: &TemplateError) -> Failure
-    ensures { (template_refusal_of cause.now).reason ≡ template_out_of_memory → kind_of result ≡ OutOfMemory }
+    ensures memory { (template_refusal_of cause.now).reason ≡ template_out_of_memory → kind_of result ≡ OutOfMemory }
+    ensures status { EndsWith 1 result }
 {
     match cause.reason() {
         TemplateErrorReason::OutOfMemory => Failure::out_of_memory(),
@@ -104,7 +37,8 @@ fn rejection(alloc: Global, path: &str, cause: &TemplateError) -> Result<String,
 
 /// Returns the failure of a rendering, in a file of this path.
 pub fn not_rendered(alloc: Global, path: &str, cause: &RenderError) -> Failure
-    ensures { reason_in cause.now ≡ out_of_memory → kind_of result ≡ OutOfMemory }
+    ensures memory { reason_in cause.now ≡ out_of_memory → kind_of result ≡ OutOfMemory }
+    ensures status { EndsWith 1 result }
 {
     let path = shown(path);
     let reason = cause.reason();
@@ -149,7 +83,8 @@ impl fmt::Display for Why<'_> {
 /// Returns the failure of a rendering of the template at `path`, which has no name. Other templates have the names that they
 /// are registered under.
 pub fn failed_in(alloc: Global, path: &str, places: &Places<'_>, cause: &RenderError) -> Failure
-    ensures { reason_in cause.now ≡ out_of_memory → kind_of result ≡ OutOfMemory }
+    ensures memory { reason_in cause.now ≡ out_of_memory → kind_of result ≡ OutOfMemory }
+    ensures status { EndsWith 1 result }
 {
     match &cause.template_name {
         Some(name) => match places.registered.path_of(places.folders, name.as_str()) {
@@ -161,7 +96,9 @@ pub fn failed_in(alloc: Global, path: &str, places: &Places<'_>, cause: &RenderE
 }
 
 /// Returns the failure of data with a number that is outside the range.
-pub fn out_of_range(alloc: Global, cause: &RenderError) -> Failure {
+pub fn out_of_range(alloc: Global, cause: &RenderError) -> Failure
+    ensures { EndsWith 2 result }
+{
     let reason = cause.reason();
     Failure::new(Kind::Input, format!(in alloc; "{reason}"))
 }

@@ -1,14 +1,15 @@
 //! `hb origins`.
 
-use crate::failure::{Failure, Kind};
 use crate::folders::register_folders;
-use crate::input::{read_template, whole_data};
-use crate::message::{failed_in, out_of_range, shown};
+use crate::message::{failed_in, out_of_range};
 use crate::setup::set_modes;
-use crate::system::System;
-use crate::task::Task;
 use crate::text::Places;
 use handlebars::{Context, FileReader, Registry};
+use hb_command::failure::{Failure, Kind};
+use hb_command::input::{read_template, whole_data};
+use hb_command::message::shown;
+use hb_command::system::System;
+use hb_command::task::Task;
 use hb_origins::{Form, OriginsError, print_origins};
 use std::alloc::Global;
 use std::io::{ErrorKind, Write};

@@ -2,16 +2,16 @@
 
 ghost use Rattle.std.specs.Prelude.{◌≢◌, IfErr, IfOk, false, string_bytes, true};
 ghost use Rattle.handlebars_template.specs.TreeView.{tree_view};
-ghost use Rattle.hb.specs.Failures.{kind_of};
+ghost use Rattle.hb_command.specs.Failures.{kind_of};
 ghost use Rattle.hb.specs.Pages.{GivesNoPage, GivesPage, IsPage};
-ghost use Rattle.hb.specs.declared.failure.Kind.TheVariants.{OutOfMemory};
+ghost use Rattle.hb_command.specs.declared.failure.Kind.TheVariants.{OutOfMemory};
 
-use crate::failure::{Failure, Kind};
 use crate::items::Items;
 use crate::message::without_prefix;
 use crate::text::{Places, text_of};
 use handlebars::{RegistryOf, Template, UserParts};
 use hb_build::Pages;
+use hb_command::failure::{Failure, Kind};
 use std::alloc::Global;
 
 /// The files of a build: each is the template, rendered over its item, and is named by the template of the names, which is

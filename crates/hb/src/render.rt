@@ -5,20 +5,20 @@ ghost use Rattle.std.specs.Prelude.{◌≡◌, ◌≢◌, IfErr, IfOk, OnOk, Som
 ghost use Rattle.handlebars_scope.specs.Contexts.{data_of};
 ghost use Rattle.handlebars_semantics.specs.State.{first_state};
 ghost use Rattle.handlebars_template.specs.TreeView.{tree_view};
-ghost use Rattle.hb.specs.Failures.{kind_of};
+ghost use Rattle.hb_command.specs.Failures.{kind_of};
 ghost use Rattle.hb.specs.Pages.{GivesNoPage, GivesPage, Prints};
-ghost use Rattle.hb.specs.declared.failure.Kind.TheVariants.{Output, OutOfMemory};
+ghost use Rattle.hb_command.specs.declared.failure.Kind.TheVariants.{Output, OutOfMemory};
 
-use crate::failure::{Failure, Kind};
 use crate::folders::{Registered, register_folders};
-use crate::input::{read_template, whole_data};
 use crate::message::out_of_range;
-use crate::output::write_file;
 use crate::setup::set_modes;
-use crate::system::System;
-use crate::task::Task;
 use crate::text::{Places, compile, text_of};
 use handlebars::{Context, FileReader, Registry, RegistryOf, RenderContext, Template, UserParts};
+use hb_command::failure::{Failure, Kind};
+use hb_command::input::{read_template, whole_data};
+use hb_command::output::write_file;
+use hb_command::system::System;
+use hb_command::task::Task;
 use std::alloc::Global;
 use std::io::Write;
 

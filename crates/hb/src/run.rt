@@ -1,16 +1,19 @@
 //! A run of the program.
 
+ghost use Rattle.std.specs.Prelude.{◌≡◌, ◌≤◌, IfOk};
+ghost use Rattle.hb_command.specs.Failures.{kind_of, status_of};
+
 use crate::build::build;
 use crate::check::{CheckTask, check};
-use crate::command::program;
-use crate::failure::{Failure, Kind};
-use crate::order::Order;
 use crate::origins::origins;
 use crate::render::render;
-use crate::system::System;
-use crate::task::Task;
 use clap::error::ErrorKind;
 use clap::{ArgMatches, Error};
+use hb_command::command::program;
+use hb_command::failure::{Failure, Kind};
+use hb_command::order::Order;
+use hb_command::system::System;
+use hb_command::task::Task;
 use hb_origins::Form;
 use std::alloc::Global;
 use std::io::Write;
@@ -21,7 +24,9 @@ pub fn run<R: System, O: Write, E: Write>(
     words: Result<Vec<String>, Failure>,
     out: &mut O,
     err: &mut E,
-) -> u8 {
+) -> u8
+    ensures { result ≤ 2 }
+{
     match words {
         Ok(words) => match answer(rt, words.as_slice(), out, err) {
             Ok(status) => status,
@@ -32,7 +37,10 @@ pub fn run<R: System, O: Write, E: Write>(
 }
 
 // Reports a failure and returns its status. If it can't be printed, the status still reports it.
-fn report<E: Write>(failure: &Failure, err: &mut E) -> u8 {
+fn report<E: Write>(failure: &Failure, err: &mut E) -> u8
+    ensures is { result ≡ status_of (kind_of failure.now) }
+    ensures most { result ≤ 2 }
+{
     let _ = writeln!(err, "{failure}");
     failure.status()
 }
@@ -42,7 +50,9 @@ fn answer<R: System, O: Write, E: Write>(
     words: &[String],
     out: &mut O,
     err: &mut E,
-) -> Result<u8, Failure> {
+) -> Result<u8, Failure>
+    ensures { IfOk result (λ status. status ≤ 1) }
+{
     let command = program(rt.alloc())?;
     match command.try_get_matches_from(words) {
         Ok(matches) => chosen(rt, &matches, out, err),
@@ -59,7 +69,9 @@ fn chosen<R: System, O: Write, E: Write>(
     matches: &ArgMatches<'_>,
     out: &mut O,
     err: &mut E,
-) -> Result<u8, Failure> {
+) -> Result<u8, Failure>
+    ensures { IfOk result (λ status. status ≤ 1) }
+{
     let Some((name, matches)) = matches.subcommand() else {
         return Err(Failure::of_text(rt.alloc(), Kind::Arguments, "no subcommand"));
     };
@@ -77,7 +89,9 @@ fn rendered<R: System, O: Write, E: Write>(
     matches: &ArgMatches<'_>,
     out: &mut O,
     err: &mut E,
-) -> Result<u8, Failure> {
+) -> Result<u8, Failure>
+    ensures { IfOk result (λ status. status ≤ 1) }
+{
     let task = Task::of(matches, &[]);
     if task.standard_inputs() > 1 {
         return Err(Failure::of_text(

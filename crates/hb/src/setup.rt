@@ -1,7 +1,7 @@
 //! The registry of a task.
 
-use crate::task::Modes;
 use handlebars::{EscapeKind, Registry};
+use hb_command::task::Modes;
 
 /// Sets the modes of a registry.
 pub fn set_modes(registry: &mut Registry, modes: &Modes) {

@@ -2,19 +2,20 @@
 
 ghost use Rattle.std.specs.Prelude.{◌≡◌, ◌≢◌, IfErr, IfOk, None, Some, false, string_bytes, true};
 ghost use Rattle.handlebars_scope.specs.Contexts.{data_of};
-ghost use Rattle.handlebars_template.specs.Compile.{Compiles, compiled};
+ghost use Rattle.handlebars_base.specs.Reasons.{TemplateRefusal};
+ghost use Rattle.handlebars_template.specs.Compile.{Compiles, compiled, rejected};
 ghost use Rattle.handlebars_template.specs.TreeView.{tree_view};
 ghost use Rattle.handlebars_context.specs.View.{has_failed, state_of};
-ghost use Rattle.hb.specs.Failures.{kind_of};
+ghost use Rattle.hb_command.specs.Failures.{EndsWith, kind_of};
 ghost use Rattle.hb.specs.Pages.{GivesNoPage, GivesPage};
-ghost use Rattle.hb.specs.declared.failure.Kind.TheVariants.{OutOfMemory};
+ghost use Rattle.hb_command.specs.declared.failure.Kind.TheVariants.{OutOfMemory};
 
-use crate::failure::Failure;
 use crate::folders::Registered;
 use crate::message::{failed_in, rejected};
 use handlebars::{
     Context, RegistryOf, RenderContext, Renderable, Template, TemplateOptions, UserParts,
 };
+use hb_command::failure::Failure;
 use log::sink::Discard;
 use std::alloc::Global;
 
@@ -36,8 +37,11 @@ pub fn compile(
     source: &str,
     prevent_indent: bool,
 ) -> Result<Template, Failure>
-    ensures { IfOk result (λ t. Compiles source.now
+    ensures ok { IfOk result (λ t. Compiles source.now
         (record { name = None; prevent_indent = prevent_indent; sections = true }) (compiled (tree_view t))) }
+    ensures err { IfErr result (λ f. kind_of f ≢ OutOfMemory → (q : TemplateRefusal) × Compiles source.now
+        (record { name = None; prevent_indent = prevent_indent; sections = true }) (rejected q)) }
+    ensures status { IfErr result (λ f. EndsWith 1 f) }
 {
     let options = TemplateOptions {
         name: None,

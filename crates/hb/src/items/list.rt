@@ -5,15 +5,15 @@ ghost use Rattle.serde_json.specs.View.{view};
 ghost use Rattle.serde_json.specs.Written.{has_float};
 ghost use Rattle.handlebars_scope.specs.Contexts.{data_of};
 ghost use Rattle.hb.specs.Advances.{AdvancesList, RestartsList, SkipsList, current_in, members_in};
-ghost use Rattle.hb.specs.Failures.{kind_of};
+ghost use Rattle.hb_command.specs.Failures.{kind_of};
 ghost use Rattle.hb.specs.Frames.{alone_at};
-ghost use Rattle.hb.specs.declared.failure.Kind.TheVariants.{OutOfMemory};
+ghost use Rattle.hb_command.specs.declared.failure.Kind.TheVariants.{OutOfMemory};
 
-use crate::failure::Failure;
 use crate::frame::with_index;
 use crate::items::Items;
 use crate::message::out_of_range;
 use handlebars::{Context, RenderContext};
+use hb_command::failure::Failure;
 use serde_json::Value;
 use std::alloc::{AllocError, Global};
 

@@ -5,10 +5,10 @@ ghost use Rattle.handlebars_scope.specs.Contexts.{data_of};
 ghost use Rattle.hb.specs.Advances.{AdvancesPath, RestartsPath, names_in};
 ghost use Rattle.hb.specs.Frames.{within_at};
 
-use crate::failure::Failure;
 use crate::frame::at_member;
 use crate::items::Items;
 use handlebars::{Context, RenderContext};
+use hb_command::failure::Failure;
 use std::alloc::{AllocError, Global};
 
 /// The members of a list in the data. The templates of an item are rendered over all of the data, in a scope frame at the item.

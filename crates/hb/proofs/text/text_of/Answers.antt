@@ -14,7 +14,7 @@ use Rattle.hb.proofs.text.text_of.Goals as goal
 pub returns-in-Err-clause-err : goal.returns-in-Err-clause-err
 returns-in-Err-clause-err g c = λ other.
     let ready = c.set_disable_escape.ensures.failed ∙ c.set_recursive_lookup.ensures.failed ∙ c.requires in
-    let why = c.in-Err.ensures.err ready (λ memory. other (c.failed_in.ensures memory)) in
+    let why = c.in-Err.ensures.err ready (λ memory. other (c.failed_in.ensures.memory memory)) in
     let begins = c.set_disable_escape.ensures.state
     ∙ ap (λ (s : State). record s { escapes = not c.args.raw }) c.set_recursive_lookup.ensures.state
     ∙ ap (λ (b : Bool). record (state_of c.args.rc.now) { recursive = b; escapes = not c.args.raw }) c.recursive_lookup.ensures in

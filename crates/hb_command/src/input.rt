@@ -3,8 +3,8 @@
 ghost use Rattle.std.specs.Prelude.{◌≡◌, ◌≢◌, ◌⊎◌, IfErr, IfOk, None, Ok, Some, codes};
 ghost use Rattle.handlebars_data.specs.Format.{format_of_path};
 ghost use Rattle.handlebars_data.specs.declared.format.Format.TheVariants.{Json};
-ghost use Rattle.hb.specs.Failures.{kind_of};
-ghost use Rattle.hb.specs.declared.failure.Kind.TheVariants.{Arguments, OutOfMemory};
+ghost use Rattle.hb_command.specs.Failures.{EndsWith, kind_of};
+ghost use Rattle.hb_command.specs.declared.failure.Kind.TheVariants.{Arguments, OutOfMemory};
 
 use crate::failure::{Failure, Kind};
 use crate::message::{not_data, shown, unreadable};
@@ -29,7 +29,9 @@ pub fn read_bytes<R: System>(rt: &R, path: &str) -> io::Result<Vec<u8>> {
 }
 
 /// Reads the text of a template.
-pub fn read_template<R: System>(rt: &R, path: &str) -> Result<String, Failure> {
+pub fn read_template<R: System>(rt: &R, path: &str) -> Result<String, Failure>
+    ensures { IfErr result (λ f. EndsWith 2 f) }
+{
     match read_bytes(rt, path) {
         Ok(bytes) => match String::from_utf8(bytes) {
             Ok(text) => Ok(text),
@@ -67,14 +69,18 @@ pub fn format_of(alloc: Global, task: &Task<'_, '_>, path: &str) -> Result<Forma
 }
 
 /// Returns the data of all sources, merged in order, with what is set in it. Without a source it is the empty object.
-pub fn whole_data<R: System>(rt: &R, task: &Task<'_, '_>) -> Result<Value, Failure> {
+pub fn whole_data<R: System>(rt: &R, task: &Task<'_, '_>) -> Result<Value, Failure>
+    ensures { IfErr result (λ f. EndsWith 2 f) }
+{
     let mut data = merged_data(rt, task)?;
     set_all(rt.alloc(), &mut data, task)?;
     Ok(data)
 }
 
 /// Returns the data of all sources, merged in order. Without a source it is the empty object.
-pub fn merged_data<R: System>(rt: &R, task: &Task<'_, '_>) -> Result<Value, Failure> {
+pub fn merged_data<R: System>(rt: &R, task: &Task<'_, '_>) -> Result<Value, Failure>
+    ensures { IfErr result (λ f. EndsWith 2 f) }
+{
     let Some((first, others)) = task.sources.split_first() else {
         return Ok(Value::Object(Map::new(rt.alloc())));
     };
@@ -86,7 +92,9 @@ pub fn merged_data<R: System>(rt: &R, task: &Task<'_, '_>) -> Result<Value, Fail
     Ok(data)
 }
 
-fn read_source<R: System>(rt: &R, task: &Task<'_, '_>, path: &str) -> Result<Value, Failure> {
+fn read_source<R: System>(rt: &R, task: &Task<'_, '_>, path: &str) -> Result<Value, Failure>
+    ensures { IfErr result (λ f. EndsWith 2 f) }
+{
     let format = format_of(rt.alloc(), task, path)?;
     match read_bytes(rt, path) {
         Ok(bytes) => match read_data(rt.alloc(), format, bytes.as_slice(), task.numbers) {
@@ -98,7 +106,9 @@ fn read_source<R: System>(rt: &R, task: &Task<'_, '_>, path: &str) -> Result<Val
 }
 
 /// Sets in an object what the words of a task set.
-pub fn set_all(alloc: Global, data: &mut Value, task: &Task<'_, '_>) -> Result<(), Failure> {
+pub fn set_all(alloc: Global, data: &mut Value, task: &Task<'_, '_>) -> Result<(), Failure>
+    ensures { IfErr result (λ f. EndsWith 2 f) }
+{
     for word in task.settings {
         if let Err(cause) = set(alloc, data, word, task.numbers) {
             return Err(not_set(alloc, word, &cause));
@@ -113,7 +123,9 @@ pub fn set_in_item(
     data: &mut Value,
     task: &Task<'_, '_>,
     at: ItemAt<'_>,
-) -> Result<(), Failure> {
+) -> Result<(), Failure>
+    ensures { IfErr result (λ f. EndsWith 2 f) }
+{
     if data.is_object() || task.settings.is_empty() {
         return set_all(alloc, data, task);
     }
@@ -123,7 +135,9 @@ pub fn set_in_item(
     ))
 }
 
-fn not_set(alloc: Global, word: &str, cause: &SettingError) -> Failure {
+fn not_set(alloc: Global, word: &str, cause: &SettingError) -> Failure
+    ensures { EndsWith 2 result }
+{
     match cause {
         SettingError::OutOfMemory => Failure::out_of_memory(),
         cause => Failure::new(Kind::Arguments, format!(in alloc; "-D {word}: {cause}")),

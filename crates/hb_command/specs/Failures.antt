@@ -1,5 +1,6 @@
 -- Why a run fails, and with which status it ends.
-use Rattle.std.specs.Prelude.{ℕ, Option, String}
+use Rattle.std.specs.Prelude.{◌≡◌, ◌⊎◌, ℕ, List, Option, String, codes, if◌then◌else◌}
+use Rattle.std.specs.Str.{bytes_eq}
 use Rattle.std.specs.IoError.{error_kind}
 use Rattle.std.specs.declared.alloc.Global.{Global}
 use Rattle.std.specs.declared.io.ErrorKind.{ErrorKind}
@@ -10,9 +11,9 @@ use Rattle.hb_build.specs.declared.outcome.Cause.{Cause}
 use Rattle.hb_build.specs.declared.outcome.Cause.TheVariants as cause
 use Rattle.hb_build.specs.declared.source.Failure as source
 use Rattle.hb_build.specs.declared.source.Failure.TheVariants as fault
-use Rattle.hb.specs.declared.failure.Failure.{Failure}
-use Rattle.hb.specs.declared.failure.Kind.{Kind}
-use Rattle.hb.specs.declared.failure.Kind.TheVariants.{Arguments, Input, Template, Rendering, Output, OutOfMemory}
+use Rattle.hb_command.specs.declared.failure.Failure.{Failure}
+use Rattle.hb_command.specs.declared.failure.Kind.{Kind}
+use Rattle.hb_command.specs.declared.failure.Kind.TheVariants.{Arguments, Input, Template, Rendering, Output, OutOfMemory}
 
 abbrev pub kind_of : Failure → Kind
 kind_of f = f.kind
@@ -28,6 +29,10 @@ status_of Template = 1
 status_of Rendering = 1
 status_of Output = 1
 status_of OutOfMemory = 1
+
+-- A run that fails for this ends with this status, unless memory ran out.
+abbrev pub EndsWith : ℕ → Failure → Type 0
+EndsWith status f = (kind_of f ≡ OutOfMemory) ⊎ (status_of (kind_of f) ≡ status)
 
 -- A failure of memory stays one.
 abbrev pub kind_or_memory : Kind → source.Failure → Kind
@@ -57,3 +62,7 @@ kind_of_stop (stop.Twice first second name) = Arguments
 kind_of_stop (stop.FileAndFolder file within name) = Arguments
 kind_of_stop (stop.Renamed item) = Input
 kind_of_stop (stop.Failed item name cause) = kind_of_cause cause
+
+-- the name of a path in messages: `-` is standard input
+abbrev pub shown_path : List ℕ → List ℕ
+shown_path path = if bytes_eq path (codes "-") then codes "<stdin>" else path

@@ -1,5 +1,8 @@
 //! Files that are written whole or not at all.
 
+ghost use Rattle.std.specs.Prelude.{IfErr};
+ghost use Rattle.hb_command.specs.Failures.{EndsWith};
+
 use crate::failure::{Failure, Kind};
 use crate::message::unwritable;
 use crate::system::System;
@@ -17,7 +20,9 @@ const TEMPORARY_NAMES: u32 = 10_000;
 /// # Errors
 ///
 /// Fails if a folder, a link or anything else than a file is at the path, or if the text can't be written.
-pub fn write_file<R: System>(rt: &R, path: &str, text: &str) -> Result<(), Failure> {
+pub fn write_file<R: System>(rt: &R, path: &str, text: &str) -> Result<(), Failure>
+    ensures { IfErr result (λ f. EndsWith 1 f) }
+{
     let permissions = match fs::symlink_metadata(rt, path) {
         Ok(found) => Some(permissions_of(rt.alloc(), path, &found)?),
         Err(cause) => match cause.kind() {
@@ -32,7 +37,9 @@ pub fn write_file<R: System>(rt: &R, path: &str, text: &str) -> Result<(), Failu
 }
 
 // The permissions of the file at a path, if one is there.
-fn permissions_of(alloc: Global, path: &str, found: &Metadata) -> Result<Permissions, Failure> {
+fn permissions_of(alloc: Global, path: &str, found: &Metadata) -> Result<Permissions, Failure>
+    ensures { IfErr result (λ f. EndsWith 1 f) }
+{
     let what = if found.is_file() {
         return Ok(found.permissions());
     } else if found.is_symlink() {

@@ -1,7 +1,7 @@
 //! What is reported of an item that fails, and of a build that stops.
 
 ghost use Rattle.std.specs.Prelude.{◌≡◌};
-ghost use Rattle.hb.specs.Failures.{kind_of_cause, kind_of_io, kind_of_stop, kind_or_memory};
+ghost use Rattle.hb_command.specs.Failures.{kind_of_cause, kind_of_io, kind_of_stop, kind_or_memory};
 
 use crate::counts::Grouped;
 use crate::failure::{Failure, Kind};

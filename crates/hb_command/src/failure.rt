@@ -1,8 +1,8 @@
 //! Why a run fails, what it says and with which status it ends.
 
 ghost use Rattle.std.specs.Prelude.{◌≡◌, ◌<◌, ◌≤◌, OnErr, OnOk};
-ghost use Rattle.hb.specs.Failures.{kind_of, message_of, status_of};
-ghost use Rattle.hb.specs.declared.failure.Kind.TheVariants.{OutOfMemory};
+ghost use Rattle.hb_command.specs.Failures.{EndsWith, kind_of, message_of, status_of};
+ghost use Rattle.hb_command.specs.declared.failure.Kind.TheVariants.{OutOfMemory};
 
 use std::alloc::{AllocError, AllocFailed, Global};
 use std::fmt;
@@ -45,6 +45,7 @@ impl Failure {
     pub fn new(kind: Kind, message: Result<String, AllocError>) -> Failure
         ensures kind { OnOk message (kind_of result ≡ kind) }
         ensures memory { OnErr message (kind_of result ≡ OutOfMemory) }
+        ensures status { EndsWith (status_of kind) result }
     {
         match message {
             Ok(message) => Failure {
@@ -56,7 +57,9 @@ impl Failure {
     }
 
     /// Creates a failure of a kind with a copy of a message.
-    pub fn of_text(alloc: Global, kind: Kind, message: &str) -> Failure {
+    pub fn of_text(alloc: Global, kind: Kind, message: &str) -> Failure
+        ensures { EndsWith (status_of kind) result }
+    {
         Failure::new(kind, String::from_str(alloc, message))
     }
 
@@ -71,7 +74,9 @@ impl Failure {
     }
 
     /// Returns the failure, of wrong arguments.
-    pub fn of_arguments(self) -> Failure {
+    pub fn of_arguments(self) -> Failure
+        ensures { EndsWith 2 result }
+    {
         let mut failure = self;
         match failure.kind {
             Kind::OutOfMemory => failure,
