@@ -1,0 +1,3 @@
+mod AsBox
+pub mod Outcomes
+pub mod Unread

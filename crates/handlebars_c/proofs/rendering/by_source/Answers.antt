@@ -1,0 +1,11 @@
+use Rattle.handlebars_semantics.specs.Answer.{FailsWith, GivesText}
+use Rattle.handlebars.specs.Over.{ForSource}
+use Rattle.handlebars_c.proofs.Unread.{error_of, unread_gives, unread_source_fails}
+use Rattle.handlebars_c.proofs.rendering.by_source.Goals as goal
+
+pub returns-in-Ok : goal.returns-in-Ok
+returns-in-Ok g c = unread_gives _ _ c.requires _ _ _ _ c.in-Ok.ensures.ok
+
+pub returns-in-Err : goal.returns-in-Err
+returns-in-Err g c =
+    error_of _ _ _ _ (λ other. unread_source_fails _ c.requires _ _ _ _ _ _ _ other (c.in-Err.ensures.err other)) c.of_rendering.ensures.is

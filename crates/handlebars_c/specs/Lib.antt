@@ -1,0 +1,10 @@
+pub mod Reasons
+pub mod Failures
+pub mod FailureView
+pub mod Answers
+pub mod Given
+pub mod Rendering
+pub mod Registering
+pub mod Modes
+pub mod Kept
+pub mod Held

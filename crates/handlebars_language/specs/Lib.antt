@@ -1,0 +1,13 @@
+pub mod Span
+pub mod Effect
+pub mod EffectView
+pub mod Reading
+pub mod ReadingView
+pub mod Nesting
+pub mod NestingView
+pub mod Faults
+pub mod FaultsView
+pub mod Finding
+pub mod LiteralReading
+pub mod Partials
+pub mod PartialsView

@@ -1,0 +1,2 @@
+" Templates of Handlebars.
+autocmd BufNewFile,BufRead *.hbs,*.handlebars setfiletype handlebars
