@@ -1,3 +1,0 @@
-mod AsBox
-pub mod Outcomes
-pub mod Unread

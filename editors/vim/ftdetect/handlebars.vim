@@ -1,2 +1,0 @@
-" Templates of Handlebars.
-autocmd BufNewFile,BufRead *.hbs,*.handlebars setfiletype handlebars
